@@ -1,0 +1,4 @@
+pub mod Capture
+pub mod Frames
+pub mod Ethernet
+pub mod Written
