@@ -1,0 +1,5 @@
+pub mod Flows
+pub mod Hashes
+pub mod Keys
+pub mod Laws
+pub mod Ports
