@@ -1,0 +1,5 @@
+pub mod FoundLemmas
+pub mod LineLemmas
+pub mod ReadingLemmas
+pub mod SpanLemmas
+pub mod TrueLemmas

@@ -1,0 +1,15 @@
+//! The head of an HTTP request (RFC 9112): whether bytes that have come begin with one, hold none or may still become
+//! one, and what of it chooses a server.
+#![tactic(auto)]
+
+mod cookie;
+mod laws;
+mod lines;
+mod read;
+
+pub use cookie::has_cookie;
+pub use laws::readings;
+pub use read::{FIELD_LINES, HeadRead, HttpHead, Part, head};
+
+#[cfg(test)]
+mod tests;
