@@ -1,0 +1,11 @@
+pub mod Filled
+pub mod Given
+pub mod Judging
+pub mod Longer
+pub mod Named
+pub mod Outputs
+pub mod Readings
+pub mod Rising
+pub mod Runs
+pub mod Sizes
+pub mod Stops

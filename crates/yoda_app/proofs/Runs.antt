@@ -1,0 +1,177 @@
+-- A command's end and its line make its run.
+use Rattle.std.proofs.Common.{◌≡◌, ◌≢◌, ◌⊎◌, ℕ, ◌≤◌, List, [], ◌∷◌, refl, sym, ◌∙◌, ap, subst, inl, inr, arith}
+use Rattle.std.specs.Prelude.{Option, None, Some, Contains, Result, Ok, Err, IfErr, OnOk, codes}
+use Rattle.shelf.specs.Shelf.{Contents, Counts, SameContents, SameOthers, NoneFell}
+use Rattle.shelf.specs.declared.outside.Kind.TheVariants.{Reading, Writing}
+use Rattle.yoda_app.specs.Commands.{Command, Change, held, error_name, IsUntouched, Says, SaysLine, line, read_text, write_text, memory_text, IsDone, IsReadFault, IsWriteFault, IsRefused, judged_status, IsRun}
+use Rattle.yoda_app.specs.Ends.{IsEnd, stop_text, end_status}
+use Rattle.yoda_app.specs.Refusals.{status_of, refusal_text}
+use Rattle.yoda_app.specs.Written.{longer, AddsPart}
+use Rattle.yoda_app.specs.declared.refusal.Refusal.{Refusal}
+use Rattle.yoda_app.specs.declared.refusal.Refusal.TheVariants.{TraceBytes, TraceRecords, RulesNotBuilt, ScriptNotBuilt, Trace}
+use Rattle.yoda_app.specs.declared.ending.Stop.{Stop}
+use Rattle.yoda_app.specs.declared.ending.Stop.TheVariants.{Memory, Read, Refused, Write}
+use Rattle.yoda_app.proofs.Outputs.{AreApart, kept, written_on, stopped_on}
+use Rattle.yoda_app.proofs.Rising.{rose_since, rose_until}
+
+-- but for the outputs and standard error no content was changed
+abbrev pub IsElsewhere : Command → Contents → Contents → Type 0
+IsElsewhere c old new = (n : List ℕ) → n ≢ error_name → (Contains c.outputs n → ⊥) → new n ≡ old n
+
+refusal_status : (f : Refusal) → (status_of f ≡ 5) ⊎ (status_of f ≡ 8) ⊎ (status_of f ≡ 10)
+refusal_status (TraceBytes n) = inr (inl refl)
+refusal_status TraceRecords = inr (inl refl)
+refusal_status RulesNotBuilt = inr (inr refl)
+refusal_status ScriptNotBuilt = inr (inr refl)
+refusal_status (Trace fault) = inl refl
+
+-- the statuses of refusals are none of the others
+not_of_refusal : (status n : ℕ) → (status ≡ 5) ⊎ (status ≡ 8) ⊎ (status ≡ 10) → status ≡ n → n ≢ 5 → n ≢ 8 → n ≢ 10 → ⊥
+not_of_refusal status n (inl five) same a b c = a (sym same ∙ five)
+not_of_refusal status n (inr (inl eight)) same a b c = b (sym same ∙ eight)
+not_of_refusal status n (inr (inr ten)) same a b c = c (sym same ∙ ten)
+
+run_done : (c : Command) (s : Change) → IsDone c s → IsElsewhere c s.old s.new → IsRun c s 0
+run_done c s done elsewhere = record {
+  statuses = inl refl;
+  done = λ _. done;
+  read_fault = λ e. absurd (omega (arith, e));
+  write_fault = λ e. absurd (omega (arith, e));
+  refused = λ e. absurd (not_of_refusal 0 0 e refl (λ x. omega (arith, x)) (λ x. omega (arith, x)) (λ x. omega (arith, x)));
+  no_memory = λ e. absurd (omega (arith, e));
+  only = λ told f e. absurd (let n : c.refusal (held s.old) ≡ None = done.accepted told in cc);
+  complete = λ told quiet. inr (sym (ap judged_status (done.accepted told)));
+  elsewhere = elsewhere;
+}
+
+run_read : (c : Command) (s : Change) (n : List ℕ) → IsReadFault c s n → SaysLine s (read_text n) → IsElsewhere c s.old s.new → IsRun c s 3
+run_read c s n fault says elsewhere = record {
+  statuses = inr (inl refl);
+  done = λ e. absurd (omega (arith, e));
+  read_fault = λ _. (n, fault, says);
+  write_fault = λ e. absurd (omega (arith, e));
+  refused = λ e. absurd (not_of_refusal 3 3 e refl (λ x. omega (arith, x)) (λ x. omega (arith, x)) (λ x. omega (arith, x)));
+  no_memory = λ e. absurd (omega (arith, e));
+  only = λ told f e. inl refl;
+  complete = λ told quiet. absurd (quiet.inputs n fault.named fault.rose);
+  elsewhere = elsewhere;
+}
+
+run_write : (c : Command) (s : Change) (n : List ℕ) → IsWriteFault c s n → SaysLine s (write_text n) → IsElsewhere c s.old s.new → IsRun c s 4
+run_write c s n fault says elsewhere = record {
+  statuses = inr (inr (inl refl));
+  done = λ e. absurd (omega (arith, e));
+  read_fault = λ e. absurd (omega (arith, e));
+  write_fault = λ _. (n, fault, says);
+  refused = λ e. absurd (not_of_refusal 4 4 e refl (λ x. omega (arith, x)) (λ x. omega (arith, x)) (λ x. omega (arith, x)));
+  no_memory = λ e. absurd (omega (arith, e));
+  only = λ told f e. absurd (let n : c.refusal (held s.old) ≡ None = fault.accepted told in cc);
+  complete = λ told quiet. absurd (quiet.outputs n fault.named fault.rose);
+  elsewhere = elsewhere;
+}
+
+run_memory : (c : Command) (s : Change) → IsUntouched s → SaysLine s memory_text → IsElsewhere c s.old s.new → IsRun c s 9
+run_memory c s untouched says elsewhere = record {
+  statuses = inr (inr (inr (inr (inr (inl refl)))));
+  done = λ e. absurd (omega (arith, e));
+  read_fault = λ e. absurd (omega (arith, e));
+  write_fault = λ e. absurd (omega (arith, e));
+  refused = λ e. absurd (not_of_refusal 9 9 e refl (λ x. omega (arith, x)) (λ x. omega (arith, x)) (λ x. omega (arith, x)));
+  no_memory = λ _. (untouched, says);
+  only = λ told f e. inr (inl refl);
+  complete = λ told quiet. inl refl;
+  elsewhere = elsewhere;
+}
+
+all_statuses : (status : ℕ) → (status ≡ 5) ⊎ (status ≡ 8) ⊎ (status ≡ 10) → (status ≡ 0) ⊎ (status ≡ 3) ⊎ (status ≡ 4) ⊎ (status ≡ 5) ⊎ (status ≡ 8) ⊎ (status ≡ 9) ⊎ (status ≡ 10)
+all_statuses status (inl five) = inr (inr (inr (inl five)))
+all_statuses status (inr (inl eight)) = inr (inr (inr (inr (inl eight))))
+all_statuses status (inr (inr ten)) = inr (inr (inr (inr (inr (inr ten)))))
+
+run_refused : (c : Command) (s : Change) (f : Refusal) → IsRefused c s f → SaysLine s (refusal_text f) → IsElsewhere c s.old s.new → IsRun c s (status_of f)
+run_refused c s f refused says elsewhere =
+    let is = refusal_status f in record {
+      statuses = all_statuses (status_of f) is;
+      done = λ e. absurd (not_of_refusal (status_of f) 0 is e (λ x. omega (arith, x)) (λ x. omega (arith, x)) (λ x. omega (arith, x)));
+      read_fault = λ e. absurd (not_of_refusal (status_of f) 3 is e (λ x. omega (arith, x)) (λ x. omega (arith, x)) (λ x. omega (arith, x)));
+      write_fault = λ e. absurd (not_of_refusal (status_of f) 4 is e (λ x. omega (arith, x)) (λ x. omega (arith, x)) (λ x. omega (arith, x)));
+      refused = λ _. (f, refl, refused, says);
+      no_memory = λ e. absurd (not_of_refusal (status_of f) 9 is e (λ x. omega (arith, x)) (λ x. omega (arith, x)) (λ x. omega (arith, x)));
+      only = λ told g e. inr (inr (let h : c.refusal (held s.old) ≡ Some f = refused.cause told in let same : f ≡ g = cc in ap status_of same));
+      complete = λ told quiet. inr (sym (ap judged_status (refused.cause told)));
+      elsewhere = elsewhere;
+    }
+
+-- a line that was said after other calls
+says_since : (old mid new : Option (List ℕ)) (before between now : ℕ) (text : List ℕ) → mid ≡ old → before ≤ between → Says mid new between now text → Says old new before now text
+says_since old mid new before between now text same later says =
+    let P : Option (List ℕ) → Type 0 = λ o. AddsPart o new text in
+    record {
+      part = subst P same says.part;
+      all = elim says.all [ inl all ↦ inl (all ∙ ap (λ o. longer o text) same) | inr rose ↦ inr (rose_since before between now later rose) ];
+    }
+
+-- the shelf's change up to a command's end, its line, and the change up to its answer
+pub record Finished (c : Command) (mid : Contents) (between : Counts) (s : Change) (end : Result (Unit {0}) Stop) : Type 0 where
+  pub apart : AreApart c.outputs
+  pub first : IsEnd c (record s { new = mid; now = between }) end
+  pub left : IsElsewhere c s.old mid
+  pub here : mid error_name ≡ s.old error_name
+  pub rising : NoneFell s.before between
+  pub later : NoneFell between s.now
+  pub says : IfErr end (λ stop. Says (mid error_name) (s.new error_name) (between Writing error_name) (s.now Writing error_name) (line (stop_text stop)))
+  pub silent : OnOk end (SameContents mid s.new)
+  pub others : SameOthers error_name mid s.new
+
+untouched_on : (old mid last : Contents) → SameOthers error_name old mid → SameOthers error_name mid last → SameOthers error_name old last
+untouched_on old mid last first second n other = second n other ∙ first n other
+
+elsewhere_on : (c : Command) (old mid last : Contents) → IsElsewhere c old mid → SameOthers error_name mid last → IsElsewhere c old last
+elsewhere_on c old mid last first second n other out = second n other ∙ first n other out
+
+pub run_of : (c : Command) (mid : Contents) (between : Counts) (s : Change) (end : Result (Unit {0}) Stop) → Finished c mid between s end → IsRun c s (end_status end)
+run_of c mid between s (Ok done) f =
+    run_done c s (record {
+      accepted = f.first.accepted;
+      outputs = λ told. (let o = f.first.outputs told in
+          (o.0, o.1, written_on c.outputs o.0 s.old mid s.new (kept c.outputs mid s.new f.apart f.others) o.2));
+    }) (elsewhere_on c s.old mid s.new f.left f.others)
+run_of c mid between s (Err Memory) f =
+    run_memory c s (untouched_on s.old mid s.new (λ n _. f.first n) f.others)
+    (says_since _ _ _ _ _ _ _ f.here (f.rising Writing error_name) f.says)
+    (elsewhere_on c s.old mid s.new f.left f.others)
+run_of c mid between s (Err (Read name)) f =
+    run_read c s name.now (record {
+      named = f.first.named;
+      rose = rose_until _ _ _ f.first.rose (f.later Reading name.now);
+      not_sure = f.first.not_sure;
+      untouched = untouched_on s.old mid s.new f.first.untouched f.others;
+    }) (says_since _ _ _ _ _ _ _ f.here (f.rising Writing error_name) f.says)
+    (elsewhere_on c s.old mid s.new f.left f.others)
+run_of c mid between s (Err (Refused g text)) f =
+    let S : List ℕ → Type 0 = λ t. SaysLine s t in
+    run_refused c s g (record {
+      cause = f.first.0.cause;
+      untouched = untouched_on s.old mid s.new f.first.0.untouched f.others;
+    }) (subst S f.first.1 (says_since _ _ _ _ _ _ _ f.here (f.rising Writing error_name) f.says))
+    (elsewhere_on c s.old mid s.new f.left f.others)
+run_of c mid between s (Err (Write name)) f =
+    run_write c s name.now (record {
+      named = f.first.named;
+      rose = rose_until _ _ _ f.first.rose (f.later Writing name.now);
+      accepted = f.first.accepted;
+      outputs = λ told. (let o = f.first.outputs told in
+          (o.0, o.1, stopped_on name.now c.outputs o.0 s.old mid s.new (kept c.outputs mid s.new f.apart f.others) o.2));
+    }) (says_since _ _ _ _ _ _ _ f.here (f.rising Writing error_name) f.says)
+    (elsewhere_on c s.old mid s.new f.left f.others)
+
+-- where only these names were changed
+pub outside_two : (a b : List ℕ) (old new : Contents) → ((n : List ℕ) → n ≢ a → n ≢ b → new n ≡ old n) → (n : List ℕ) → n ≢ error_name → (Contains (a ∷ b ∷ []) n → ⊥) → new n ≡ old n
+outside_two a b old new others n other out = others n (λ same. out (0, omega arith, sym same)) (λ same. out (1, omega arith, sym same))
+
+pub outside_one : (a : List ℕ) (old new : Contents) → ((n : List ℕ) → n ≢ a → new n ≡ old n) → (n : List ℕ) → n ≢ error_name → (Contains (a ∷ []) n → ⊥) → new n ≡ old n
+outside_one a old new others n other out = others n (λ same. out (0, omega arith, sym same))
+
+-- standard error is not standard output
+pub not_output : codes "!" ≢ codes "-"
+not_output same = cc

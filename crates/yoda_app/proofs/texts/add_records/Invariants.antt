@@ -1,0 +1,23 @@
+use Rattle.std.proofs.Common.{◌≡◌, ◌≤◌, ◌+◌, ◌*◌, ◌++◌, [], length, ◌-◌}
+use Rattle.std.specs.String.{string_bytes}
+use Rattle.pcap_file.specs.Frames.{left_of}
+use Rattle.yoda_app.specs.Fold.{steps}
+use Rattle.yoda_app.specs.Outs.{all_sent}
+use Rattle.yoda_app.specs.Reports.{report_lines, outs_count}
+use Rattle.yoda_app.proofs.texts.add_records.Given as goal
+
+abbrev pub invariant-loop-frame : goal.invariant-loop-frame
+invariant-loop-frame l =
+    let all = (left_of l.fn.reader l.trace).frames in
+    let left = (left_of l.reader l.trace).frames in record {
+      inside : l.reader.place ≤ length l.trace;
+      few : l.records + length left ≤ 262144;
+      small : l.outs ≤ 11 * l.records;
+      out : l.texts.out.items ++ all_sent left (steps l.setup l.answered l.trace left) ≡ l.fn.texts.out.items ++ all_sent all (steps l.setup [] l.trace all);
+      report : string_bytes l.texts.report ++ report_lines l.records (steps l.setup l.answered l.trace left) ≡ string_bytes l.fn.texts.report ++ report_lines 0 (steps l.setup [] l.trace all);
+      records : l.records + length (steps l.setup l.answered l.trace left) ≡ length (steps l.setup [] l.trace all);
+      outs : l.outs + outs_count (steps l.setup l.answered l.trace left) ≡ outs_count (steps l.setup [] l.trace all);
+    }
+
+abbrev pub decreases-loop-frame : goal.decreases-loop-frame
+decreases-loop-frame l = length l.trace - l.reader.place

@@ -1,0 +1,148 @@
+-- What a command may answer. The frame is the same for each command: it reads its inputs in order, judges them, makes
+-- its texts, and writes its outputs in order. Every exit status has its cause here. Names and texts are lists of bytes.
+use Rattle.std.specs.Prelude.{◌≡◌, ◌≢◌, ◌⊎◌, ◌↔◌, ℕ, Bool, false, List, [], ◌∷◌, ◌++◌, Option, None, Some, IsSome, Contains, unwrap_or, codes}
+use Rattle.std.specs.List.{AllByRecursion}
+use Rattle.common.specs.Causes.{Rose}
+use Rattle.shelf.specs.Shelf.{Contents, Counts, SameOthers}
+use Rattle.shelf.specs.declared.outside.Kind.TheVariants.{Reading, Writing}
+use Rattle.yoda_app.specs.Refusals.{status_of, refusal_text}
+use Rattle.yoda_app.specs.Written.{longer, AddsPart, written, HoldsPart}
+use Rattle.yoda_app.specs.declared.refusal.Refusal.{Refusal}
+
+-- a command, by the names that its words give
+pub record Command : Type 1 where
+  -- the names that it reads and those that it writes, in their order
+  pub inputs : List (List ℕ)
+  pub outputs : List (List ℕ)
+  -- by what each name holds: why it is refused, if it is
+  pub refusal : (List ℕ → List ℕ) → Option Refusal
+  -- .. and whether these are the texts that it writes, one for each output
+  pub Gives : (List ℕ → List ℕ) → List (List ℕ) → Type 0
+
+-- a shelf before a command and after it
+pub record Change : Type 1 where
+  pub old : Contents
+  pub new : Contents
+  -- the counts of faults
+  pub before : Counts
+  pub now : Counts
+  -- the names that were sure before it
+  pub sure : List ℕ → Type 0
+
+-- the change from one state of a shelf to another, by the shelf's three meanings
+abbrev pub change : {S : Type 0} → (S → Contents) → (S → Counts) → (S → List ℕ → Type 0) → S → S → Change
+change content faults sure s t = record { old = content s; new = content t; before = faults s; now = faults t; sure = sure s }
+
+-- what a name holds, where it is told
+abbrev pub held : Contents → List ℕ → List ℕ
+held content name = unwrap_or (content name) []
+
+-- it is told what each of these names holds
+abbrev pub AreTold : Contents → List (List ℕ) → Type 0
+AreTold content names = AllByRecursion (λ n. IsSome (content n)) names
+
+-- standard error
+abbrev pub error_name : List ℕ
+error_name = codes "!"
+
+-- but for standard error no content was changed
+abbrev pub IsUntouched : Change → Type 0
+IsUntouched s = SameOthers error_name s.old s.new
+
+-- a line was added, or its beginning and there was a fault
+pub record Says (old new : Option (List ℕ)) (before now : ℕ) (line : List ℕ) : Type 0 where
+  pub part : AddsPart old new line
+  pub all : (new ≡ longer old line) ⊎ Rose before now
+
+-- the line of a text
+abbrev pub line : List ℕ → List ℕ
+line text = codes "yoda: " ++ text ++ codes "\n"
+
+-- the line of a text was added to standard error; a fault in that changes nothing else
+abbrev pub SaysLine : Change → List ℕ → Type 0
+SaysLine s text = Says (s.old error_name) (s.new error_name) (s.before Writing error_name) (s.now Writing error_name) (line text)
+
+abbrev pub usage_text : List ℕ
+usage_text = codes "usage: plain RULES TRACE SCRIPT OUT REPORT, run RULES TRACE SCRIPT OUT REPORT JOURNAL, drive FLOWS BYTES NUMBER, dump TRACE"
+
+abbrev pub read_text : List ℕ → List ℕ
+read_text name = codes "read fault: " ++ name
+
+abbrev pub write_text : List ℕ → List ℕ
+write_text name = codes "write fault: " ++ name
+
+abbrev pub memory_text : List ℕ
+memory_text = codes "no memory"
+
+-- each output was started and holds its text
+abbrev pub AllWritten : List (List ℕ) → List (List ℕ) → Contents → Contents → Type 0
+AllWritten [] [] old new = Unit {0}
+AllWritten (name ∷ names) (text ∷ texts) old new = (new name ≡ written name (old name) text) × AllWritten names texts old new
+AllWritten _ _ old new = ⊥
+
+-- none of these names was changed
+abbrev pub AllKept : List (List ℕ) → Contents → Contents → Type 0
+AllKept names old new = AllByRecursion (λ n. new n ≡ old n) names
+
+-- the outputs before this one hold their texts, this one a beginning of its text, and those behind it are as they were
+abbrev pub StoppedAt : List ℕ → List (List ℕ) → List (List ℕ) → Contents → Contents → Type 0
+StoppedAt stop (name ∷ names) (text ∷ texts) old new =
+    ((stop ≡ name) × HoldsPart name (old name) (new name) text × AllKept names old new)
+    ⊎ ((new name ≡ written name (old name) text) × StoppedAt stop names texts old new)
+StoppedAt stop _ _ old new = ⊥
+
+-- the command was done
+pub record IsDone (c : Command) (s : Change) : Type 0 where
+  pub accepted : AreTold s.old c.inputs → c.refusal (held s.old) ≡ None
+  pub outputs : AreTold s.old c.inputs → (texts : List (List ℕ)) × c.Gives (held s.old) texts × AllWritten c.outputs texts s.old s.new
+
+-- this input, which was not sure, had a fault, and no output was changed
+pub record IsReadFault (c : Command) (s : Change) (name : List ℕ) : Type 0 where
+  pub named : Contains c.inputs name
+  pub rose : Rose (s.before Reading name) (s.now Reading name)
+  pub not_sure : s.sure name → ⊥
+  pub untouched : IsUntouched s
+
+-- this output had a fault, and nothing was refused before
+pub record IsWriteFault (c : Command) (s : Change) (name : List ℕ) : Type 0 where
+  pub named : Contains c.outputs name
+  pub rose : Rose (s.before Writing name) (s.now Writing name)
+  pub accepted : AreTold s.old c.inputs → c.refusal (held s.old) ≡ None
+  pub outputs : AreTold s.old c.inputs → (texts : List (List ℕ)) × c.Gives (held s.old) texts × StoppedAt name c.outputs texts s.old s.new
+
+-- this is why the command is refused, and no output was changed
+pub record IsRefused (c : Command) (s : Change) (f : Refusal) : Type 0 where
+  pub cause : AreTold s.old c.inputs → c.refusal (held s.old) ≡ Some f
+  pub untouched : IsUntouched s
+
+-- no count rose at an input or an output
+pub record IsQuiet (c : Command) (s : Change) : Type 0 where
+  pub inputs : (n : List ℕ) → Contains c.inputs n → Rose (s.before Reading n) (s.now Reading n) → ⊥
+  pub outputs : (n : List ℕ) → Contains c.outputs n → Rose (s.before Writing n) (s.now Writing n) → ⊥
+
+-- the status that a judgement gives
+abbrev pub judged_status : Option Refusal → ℕ
+judged_status None = 0
+judged_status (Some f) = status_of f
+
+-- what a command with right words answers and leaves. Status 9, want of memory, may come in place of each status but 4.
+pub record IsRun (c : Command) (s : Change) (status : ℕ) : Type 0 where
+  pub statuses :
+      (status ≡ 0) ⊎ (status ≡ 3) ⊎ (status ≡ 4) ⊎ (status ≡ 5) ⊎ (status ≡ 8) ⊎ (status ≡ 9) ⊎ (status ≡ 10)
+  pub done : status ≡ 0 → IsDone c s
+  pub read_fault : status ≡ 3 → (n : List ℕ) × IsReadFault c s n × SaysLine s (read_text n)
+  pub write_fault : status ≡ 4 → (n : List ℕ) × IsWriteFault c s n × SaysLine s (write_text n)
+  pub refused : (status ≡ 5) ⊎ (status ≡ 8) ⊎ (status ≡ 10) → (f : Refusal) × (status ≡ status_of f) × IsRefused c s f × SaysLine s (refusal_text f)
+  pub no_memory : status ≡ 9 → IsUntouched s × SaysLine s memory_text
+  -- where it is refused, nothing else comes but a fault of reading before, or want of memory
+  pub only : AreTold s.old c.inputs → (f : Refusal) → c.refusal (held s.old) ≡ Some f → (status ≡ 3) ⊎ (status ≡ 9) ⊎ (status ≡ status_of f)
+  -- where nothing failed, the status is the one that the judgement gives
+  pub complete : AreTold s.old c.inputs → IsQuiet c s → (status ≡ 9) ⊎ (status ≡ judged_status (c.refusal (held s.old)))
+  -- but for the outputs and standard error no content was changed
+  pub elsewhere : (n : List ℕ) → n ≢ error_name → (Contains c.outputs n → ⊥) → s.new n ≡ s.old n
+
+-- what is answered by whether the words are right: where they are not, nothing is read or written but the line
+pub record IsUsage (right : Bool) (s : Change) (status : ℕ) : Type 0 where
+  pub exactly : (status ≡ 2) ↔ (right ≡ false)
+  pub says : status ≡ 2 → SaysLine s usage_text
+  pub untouched : status ≡ 2 → IsUntouched s

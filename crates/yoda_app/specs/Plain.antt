@@ -1,0 +1,51 @@
+-- The command `plain`: the records of a trace are handled one after the other, and what is sent and what became of each
+-- record is written.
+use Rattle.std.specs.Prelude.{◌≡◌, ℕ, List, [], ◌∷◌, IfOk}
+use Rattle.std.specs.Result.{result_err}
+use Rattle.pcap_file.specs.Frames.{capture_of}
+use Rattle.yoda_app.specs.Commands.{Command}
+use Rattle.yoda_app.specs.Fold.{steps}
+use Rattle.yoda_app.specs.Judgement.{judged}
+use Rattle.yoda_app.specs.Outs.{outs_text}
+use Rattle.yoda_app.specs.Reports.{report_text}
+use Rattle.yoda_app.specs.Words.{word}
+use Rattle.yoda_app.specs.declared.setup.Setup.{Setup}
+use Rattle.yoda_app.specs.declared.words.PlainNames.{PlainNames}
+
+-- what is written: the capture of what is sent, and the report
+abbrev pub plain_texts : Setup → List ℕ → List (List ℕ)
+plain_texts setup trace =
+    let frames = (capture_of trace).frames in
+    let steps = steps setup [] trace frames in
+    outs_text frames steps ∷ report_text steps ∷ []
+
+-- the five names
+pub record Paths : Type 0 where
+  pub rules : List ℕ
+  pub trace : List ℕ
+  pub script : List ℕ
+  pub out : List ℕ
+  pub report : List ℕ
+
+-- the command over them
+abbrev pub plain_over : Paths → Command
+plain_over p = record {
+  inputs = p.rules ∷ p.trace ∷ p.script ∷ [];
+  outputs = p.out ∷ p.report ∷ [];
+  refusal = λ holds. result_err (judged (holds p.rules) (holds p.trace) (holds p.script));
+  Gives = λ holds texts. IfOk (judged (holds p.rules) (holds p.trace) (holds p.script)) (λ setup. texts ≡ plain_texts setup (holds p.trace));
+}
+
+-- the names that the command is given
+abbrev pub paths : PlainNames → Paths
+paths n = record { rules = n.rules.now; trace = n.trace.now; script = n.script.now; out = n.out.now; report = n.report.now }
+
+abbrev pub plain_of : PlainNames → Command
+plain_of names = plain_over (paths names)
+
+-- the names among the words: plain RULES TRACE SCRIPT OUT REPORT
+abbrev pub plain_paths : List (List ℕ) → Paths
+plain_paths words = record { rules = word 1 words; trace = word 2 words; script = word 3 words; out = word 4 words; report = word 5 words }
+
+abbrev pub plain_command : List (List ℕ) → Command
+plain_command words = plain_over (plain_paths words)

@@ -1,0 +1,98 @@
+//! The commands of the program, over any shelf.
+//!
+//! A command is judged by the words behind the program's name. It reads its inputs, judges them, makes its texts, and
+//! writes its outputs; the answer is the exit status, and for each status other than 0 a line goes to standard error.
+//! `specs/Commands.antt` says for all commands what each status means and what it leaves; `specs/Plain.antt` and
+//! `specs/DumpCommand.antt` say what the two commands judge and write.
+#![tactic(auto)]
+
+ghost use Rattle.std.specs.Prelude.{◌≡◌, ◌||◌, true};
+ghost use Rattle.shelf.specs.Shelf.{NoneFell, StaysSure};
+ghost use Rattle.yoda_app.specs.Commands.{change, IsRun, IsUsage};
+ghost use Rattle.yoda_app.specs.DumpCommand.{dump_command};
+ghost use Rattle.yoda_app.specs.Plain.{plain_command};
+ghost use Rattle.yoda_app.specs.Words.{texts, are_plain, are_dump};
+
+mod answered;
+mod dump;
+mod dump_line;
+mod dump_text;
+mod ending;
+mod handling;
+mod incoming;
+mod inputs;
+mod judgement;
+mod plain;
+mod reading;
+mod refusal;
+mod report;
+mod rules;
+mod setup;
+mod texts;
+mod trace;
+mod verdict;
+mod words;
+mod writing;
+
+use crate::dump::dump;
+pub use crate::ending::refuse_memory;
+use crate::ending::{finish, refuse_words};
+use crate::plain::plain;
+use crate::words::{dump_name, plain_names};
+use shelf::Shelf;
+use std::alloc::Global;
+
+/// The command `plain`, by the words behind the program's name: `plain RULES TRACE SCRIPT OUT REPORT`. It answers the
+/// exit status. It always returns, and it answers 2 for another command's words.
+pub fn yoda_plain<H: Shelf>(alloc: Global, words: &[String], shelf: &mut H) -> u8
+    ensures usage { IsUsage (are_plain (texts words.now)) (change H.content H.faults H.sure shelf.old shelf.new) result }
+    ensures run { are_plain (texts words.now) ≡ true
+        → IsRun (plain_command (texts words.now)) (change H.content H.faults H.sure shelf.old shelf.new) result }
+    ensures counts { NoneFell (H.faults shelf.old) (H.faults shelf.new) }
+    ensures stays { StaysSure (H.sure shelf.old) (H.sure shelf.new) }
+{
+    match plain_names(words) {
+        Some(names) => {
+            let end = plain(alloc, shelf, &names);
+            finish(shelf, &end)
+        }
+        None => refuse_words(shelf),
+    }
+}
+
+/// The command `dump`, by the words behind the program's name: `dump TRACE`. It answers the exit status. It always
+/// returns, and it answers 2 for another command's words.
+pub fn yoda_dump<H: Shelf>(alloc: Global, words: &[String], shelf: &mut H) -> u8
+    ensures usage { IsUsage (are_dump (texts words.now)) (change H.content H.faults H.sure shelf.old shelf.new) result }
+    ensures run { are_dump (texts words.now) ≡ true
+        → IsRun (dump_command (texts words.now)) (change H.content H.faults H.sure shelf.old shelf.new) result }
+    ensures counts { NoneFell (H.faults shelf.old) (H.faults shelf.new) }
+    ensures stays { StaysSure (H.sure shelf.old) (H.sure shelf.new) }
+{
+    match dump_name(words) {
+        Some(trace) => {
+            let end = dump(alloc, shelf, trace);
+            finish(shelf, &end)
+        }
+        None => refuse_words(shelf),
+    }
+}
+
+/// Any command, by the words behind the program's name. It answers the exit status, by the command's own call.
+pub fn yoda<H: Shelf>(alloc: Global, words: &[String], shelf: &mut H) -> u8
+    ensures usage { IsUsage (are_plain (texts words.now) || are_dump (texts words.now)) (change H.content H.faults H.sure shelf.old shelf.new) result }
+    ensures plain { are_plain (texts words.now) ≡ true
+        → IsRun (plain_command (texts words.now)) (change H.content H.faults H.sure shelf.old shelf.new) result }
+    ensures dump { are_dump (texts words.now) ≡ true
+        → IsRun (dump_command (texts words.now)) (change H.content H.faults H.sure shelf.old shelf.new) result }
+    ensures counts { NoneFell (H.faults shelf.old) (H.faults shelf.new) }
+    ensures stays { StaysSure (H.sure shelf.old) (H.sure shelf.new) }
+{
+    match dump_name(words) {
+        Some(_) => yoda_dump(alloc, words, shelf),
+        None => yoda_plain(alloc, words, shelf),
+    }
+}
+
+#[cfg(test)]
+mod tests;
