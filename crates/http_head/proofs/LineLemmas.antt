@@ -1,5 +1,5 @@
 -- Lines and their ends: what a line feed ends is a line, and a line without its end gives both back.
-use Rattle.std.proofs.Common.{◌≡◌, ℕ, ◌+◌, ◌<◌, Bool, true, false, eqb, ltb, ◌≤◌, ◌⊎◌, inl, inr, Some, None, take, drop, position, List, [], ◌∷◌, ◌++◌, length, refl, sym, ap, ◌∙◌, cond, arith, append_assoc, All, IsTrue}
+use Rattle.std.proofs.Common.{◌≡◌, ℕ, ◌+◌, ◌<◌, Bool, true, false, eqb, ltb, ◌≤◌, inl, inr, Some, None, take, drop, position, List, [], ◌∷◌, ◌++◌, length, refl, sym, ap, ◌∙◌, arith, append_assoc, All, IsTrue}
 use Rattle.std.specs.List.{join_with_byte, onto_first, position_or_len}
 use Rattle.std.proofs.lemmas.List.Sums.{fails_before_first}
 use Rattle.std.proofs.lemmas.Bool.{ltb-true, ltb-false, eqb-true, false_from_ne_true, cond-true, cond-false, cond_both, both_ways}
@@ -7,16 +7,12 @@ use Rattle.std.proofs.lemmas.List.Elements.{All-append, All-cons, All-nil, All-h
 use Rattle.std.proofs.lemmas.List.Splits.{slice_split_at, slice_split_first, slice_split_none, join_with_byte-slice_split}
 use Rattle.httparse.specs.Grammar.{LineEnd, crlf, lf, print_end, AllPass}
 use Rattle.http_head.specs.Lines.{lines_of, is_blank, is_ended, without_end}
+use Rattle.http_head.proofs.CaseLemmas.{cond_is}
 
 -- what stands before the line feed of a line end
 abbrev pub return_of : LineEnd → List ℕ
 return_of crlf = 13 ∷ []
 return_of lf = []
-
--- which of two cases a choice was
-pub cond_is : {A : Type 0} (b : Bool) (x y z : A) → cond b x y ≡ z → ((b ≡ true) × (x ≡ z)) ⊎ ((b ≡ false) × (y ≡ z))
-cond_is true x y z e = inl (refl, e)
-cond_is false x y z e = inr (refl, e)
 
 -- a byte that is not this one
 abbrev pub Not : ℕ → ℕ → Type 0

@@ -8,9 +8,10 @@ use Rattle.httparse.proofs.GrammarLemmas.{request_unique, ReadsRequest-append}
 use Rattle.http_head.specs.Lines.{lines_of}
 use Rattle.http_head.specs.Reading.{Reading, complete, bad, partial, head_of, are_over, without_head, reading_with, reading, field_line_limit}
 use Rattle.http_head.specs.Laws.{BeginsWith, CompleteIsHead, HeadIsOne, CompleteStays, HeadAlone}
-use Rattle.http_head.proofs.LineLemmas.{cond_is, joined-lines_of}
+use Rattle.http_head.proofs.LineLemmas.{joined-lines_of}
 use Rattle.http_head.proofs.FoundLemmas.{head_found}
 use Rattle.http_head.proofs.TrueLemmas.{head_true}
+use Rattle.http_head.proofs.CaseLemmas.{cond_is}
 
 -- without a head nothing is complete
 pub without_head_is_incomplete : (lines : List (List ℕ)) → is_complete (without_head lines) ≡ false

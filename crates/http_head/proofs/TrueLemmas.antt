@@ -1,7 +1,6 @@
 -- What is found at the front of the bytes is a head of the grammar.
-use Rattle.std.proofs.Common.{◌≡◌, ℕ, suc, ◌+◌, ◌≤◌, Bool, true, false, not, ◌&&◌, ◌||◌, eqb, ltb, List, [], ◌∷◌, ◌++◌, length, take, drop, refl, sym, ap, subst, ◌∙◌, inl, inr, cond, arith, append_assoc, All, Option, Some, None, option_map, codes}
+use Rattle.std.proofs.Common.{◌≡◌, ℕ, suc, ◌+◌, ◌≤◌, Bool, true, false, not, ◌&&◌, ◌||◌, eqb, ltb, List, [], ◌∷◌, ◌++◌, length, take, drop, refl, sym, ap, subst, ◌∙◌, inl, inr, arith, append_assoc, All, Some, codes}
 use Rattle.std.specs.List.{slice_split, join_with_byte, list_all, list_any, position_or_len, before_first, after_first}
-use Rattle.std.specs.Option.{option_and_then}
 use Rattle.std.specs.Str.{bytes_eq, is_utf8}
 use Rattle.std.proofs.lemmas.Bool.{cond-true, cond-false, and_parts, ltb-true, eqb-true}
 use Rattle.std.proofs.lemmas.List.Elements.{All-cons, All-nil}
@@ -13,23 +12,9 @@ use Rattle.httparse.specs.Grammar.{LineEnd, print_end, print_blank, print_versio
 use Rattle.httparse.proofs.GrammarLemmas.{print_request-append}
 use Rattle.http_head.specs.Lines.{is_blank, is_ended, without_end}
 use Rattle.http_head.specs.Reading.{field_with, field_of, section_of, head_with, head_of, after_blank, minor_version, is_target}
-use Rattle.http_head.proofs.LineLemmas.{cond_is, blank_end, joined, joined-line}
+use Rattle.http_head.proofs.LineLemmas.{blank_end, joined, joined-line}
 use Rattle.http_head.proofs.FoundLemmas.{line_of, request_line, print_request-line, print_section-cons}
-
--- ---- what an answer that is there says of how it was made
-
-some_is : {A : Type 0} (b : Bool) (o : Option A) (a : A) → cond b o None ≡ Some a → (b ≡ true) × (o ≡ Some a)
-some_is true o a e = (refl, e)
-some_is false o a e = absurd cc
-
-and_then_is : {A B : Type 0} (k : A → Option B) (o : Option A) (b : B) → option_and_then k o ≡ Some b
-    → (a : A) × (o ≡ Some a) × (k a ≡ Some b)
-and_then_is k None b e = absurd cc
-and_then_is k (Some a) b e = (a, refl, e)
-
-map_is : {A B : Type 0} (k : A → B) (o : Option A) (b : B) → option_map k o ≡ Some b → (a : A) × (o ≡ Some a) × (k a ≡ b)
-map_is k None b e = absurd cc
-map_is k (Some a) b e = (a, refl, cc)
+use Rattle.http_head.proofs.CaseLemmas.{cond_is, some_is, and_then_is, map_is}
 
 -- ---- the first byte of a kind
 

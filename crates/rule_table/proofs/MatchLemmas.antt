@@ -3,7 +3,7 @@ use Rattle.std.proofs.Common.{◌≡◌, ℕ, ◌<◌, Bool, List, length, take,
 use Rattle.std.proofs.lemmas.Bool.{both_ways, ltb-true}
 use Rattle.std.proofs.lemmas.List.{take-append-drop}
 use Rattle.std.specs.List.{position_or_len}
-use Rattle.http_head.proofs.LineLemmas.{cond_is}
+use Rattle.http_head.proofs.CaseLemmas.{cond_is}
 use Rattle.std.proofs.lemmas.Option.{slice_get_within, get_or_from_slice_get}
 use Rattle.weighted_pick.specs.Pick.{picked}
 use Rattle.weighted_pick.proofs.PickLemmas.{picked_has_weight}
