@@ -1,0 +1,6 @@
+pub mod AddressLemmas
+pub mod ApartLemmas
+pub mod MadeLemmas
+pub mod SetupLemmas
+pub mod StepLemmas
+pub mod TomlLemmas

@@ -1,0 +1,10 @@
+pub mod Checks
+pub mod Document
+pub mod Forms
+pub mod Laws
+pub mod Names
+pub mod Steps
+pub mod Texts
+pub mod Values
+pub mod Written
+pub mod WrittenViews
