@@ -20,3 +20,6 @@ pub use document::rules_of;
 pub use fault::RuleFault;
 pub use laws::rules_say_setups;
 pub use name::Name;
+
+#[cfg(test)]
+mod tests;
