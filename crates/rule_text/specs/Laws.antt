@@ -1,6 +1,7 @@
--- What a rules file says is a setup.
-use Rattle.std.specs.Prelude.{◌≡◌, ℕ, List, Ok}
+-- What holds of all that a rules file says.
+use Rattle.std.specs.Prelude.{◌≡◌, ◌≢◌, ℕ, List, Ok, Err}
 use Rattle.rule_table.specs.Setups.{SetupView, IsSetup}
+use Rattle.rule_text.specs.declared.fault.RuleFault.TheVariants.{Memory}
 use Rattle.rule_text.specs.Checks.{every, weighs}
 use Rattle.rule_text.specs.Document.{Fields, resolved_rules, rules_in, setup_with}
 
@@ -11,3 +12,7 @@ MakesSetup f = every weighs 0 (resolved_rules f) ≡ Ok tt → IsSetup (setup_wi
 -- the same of what the bytes say
 abbrev pub SaysSetups : Type 0
 SaysSetups = (bytes : List ℕ) (setup : SetupView) → rules_in bytes ≡ Ok setup → IsSetup setup
+
+-- the bytes never say want of memory: that comes from the machine alone
+abbrev pub NeverMemory : Type 0
+NeverMemory = (bytes : List ℕ) → rules_in bytes ≢ Err Memory

@@ -18,7 +18,7 @@ mod written;
 
 pub use document::rules_of;
 pub use fault::RuleFault;
-pub use laws::rules_say_setups;
+pub use laws::rules_say;
 pub use name::Name;
 
 #[cfg(test)]

@@ -1,4 +1,4 @@
-use crate::{Name, RuleFault, rules_of, rules_say_setups};
+use crate::{Name, RuleFault, rules_of, rules_say};
 use http_head::{HeadRead, head};
 use rule_table::{Server, Service, Setup};
 use std::alloc::Global;
@@ -118,7 +118,7 @@ fn rules_say_their_setup(rt: HostRuntime) -> Result<(), Fail> {
         Some(2)
     );
     assert_eq!(rt; matched(&setup, b"GET / HTTP/1.1\r\n\r\n"), None);
-    rules_say_setups();
+    rules_say();
     Ok(())
 }
 
