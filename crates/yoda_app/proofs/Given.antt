@@ -6,6 +6,7 @@ use Rattle.yoda_app.specs.Fold.{steps}
 use Rattle.yoda_app.specs.Outs.{outs_text}
 use Rattle.yoda_app.specs.Plain.{plain_texts}
 use Rattle.yoda_app.specs.Reports.{report_text}
+use Rattle.yoda_app.specs.Stores.{opening}
 use Rattle.yoda_app.specs.declared.refusal.Refusal.{Refusal}
 use Rattle.yoda_app.specs.declared.setup.Setup.{Setup}
 
@@ -14,8 +15,8 @@ two a b c d e f = cc
 
 -- texts that were made with the setup that the judgement gives, of the trace that was judged
 pub texts_given : (r : Result Setup Refusal) (u v : Setup) (bytes trace out report : List ℕ) → r ≡ Ok v → u ≡ v → bytes ≡ trace
-    → out ≡ outs_text (capture_of bytes).frames (steps u [] bytes (capture_of bytes).frames)
-    → report ≡ report_text (steps u [] bytes (capture_of bytes).frames)
+    → out ≡ outs_text (capture_of bytes).frames (steps u (opening u) bytes (capture_of bytes).frames)
+    → report ≡ report_text (steps u (opening u) bytes (capture_of bytes).frames)
     → IfOk r (λ w. ◌≡◌ {A = List (List ℕ)} (out ∷ report ∷ []) (plain_texts w trace))
 texts_given r u v bytes trace out report is same_setup same_bytes is_out is_report =
     let made : ◌≡◌ {A = List (List ℕ)} (out ∷ report ∷ []) (plain_texts u bytes) = two out report _ _ is_out is_report in

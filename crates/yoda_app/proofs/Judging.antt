@@ -4,7 +4,7 @@ use Rattle.std.specs.Prelude.{Option, None, Some, Result, Ok, Err}
 use Rattle.std.specs.Option.{option_map, option_or}
 use Rattle.pcap_file.specs.declared.capture.PcapFault.{PcapFault}
 use Rattle.pcap_file.specs.Frames.{capture_of}
-use Rattle.yoda_app.specs.Judgement.{above_limit, trace_fault, unless_refused, judged, trace_refusal}
+use Rattle.yoda_app.specs.Judgement.{above_limit, unless_refused, judged, trace_refusal}
 use Rattle.yoda_app.specs.Rules.{are_built, built_setup}
 use Rattle.yoda_app.specs.declared.refusal.Refusal.{Refusal}
 use Rattle.yoda_app.specs.declared.refusal.Refusal.TheVariants.{RulesNotBuilt, ScriptNotBuilt, Trace}

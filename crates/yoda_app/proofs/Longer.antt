@@ -1,10 +1,8 @@
 -- Contents that grow.
-use Rattle.std.proofs.Common.{◌≡◌, ℕ, ◌+◌, List, ◌++◌, length, take, drop, refl, sym, ◌∙◌, ap, subst, arith, append_assoc, length-append}
+use Rattle.std.proofs.Common.{◌≡◌, ℕ, ◌+◌, List, ◌++◌, length, take, drop, refl, sym, ◌∙◌, ap, arith, append_assoc, length-append}
 use Rattle.std.proofs.lemmas.List.{take-append-le}
 use Rattle.std.proofs.Math.Seq.{take-append-add, take-add}
 use Rattle.std.specs.Prelude.{Option, None, Some}
-use Rattle.shelf.specs.Shelf.{started}
-use Rattle.yoda_app.specs.Written.{HoldsPart}
 use Rattle.yoda_app.specs.Written.{longer, AddsPart}
 
 pub longer-longer : (o : Option (List ℕ)) (a b : List ℕ) → longer (longer o a) b ≡ longer o (a ++ b)

@@ -2,7 +2,6 @@ pub mod Commands
 pub mod DumpCommand
 pub mod Dumps
 pub mod Ends
-pub mod Flows
 pub mod Fold
 pub mod Incoming
 pub mod Judgement
@@ -12,6 +11,7 @@ pub mod Refusals
 pub mod Reports
 pub mod Rules
 pub mod Setups
+pub mod Stores
 pub mod Verdicts
 pub mod Whole
 pub mod Words

@@ -7,7 +7,7 @@ use Rattle.ipv4.specs.declared.packet.IpFault.TheVariants as ip
 use Rattle.tcp_segment.specs.declared.segment.TcpFault.{TcpFault}
 use Rattle.tcp_segment.specs.declared.segment.TcpFault.TheVariants as tcp
 use Rattle.yoda_app.specs.declared.verdict.Verdict.{Verdict}
-use Rattle.yoda_app.specs.declared.verdict.Verdict.TheVariants.{Answered, OtherNumber, NotIpv4, SnapCut, BadIp, BadTcp, NotBuilt}
+use Rattle.yoda_app.specs.declared.verdict.Verdict.TheVariants.{Answered, OtherNumber, StoreDown, NotIpv4, SnapCut, BadIp, BadTcp, NotBuilt}
 
 -- the fault of a packet
 abbrev pub ip_text : IpFault → List ℕ
@@ -29,6 +29,7 @@ tcp_text (tcp.OptionCut at) = codes "option " ++ decimal at
 abbrev pub verdict_text : Verdict → List ℕ
 verdict_text Answered = codes "answered"
 verdict_text (OtherNumber n) = codes "othernumber " ++ decimal n
+verdict_text StoreDown = codes "storedown"
 verdict_text NotIpv4 = codes "notipv4"
 verdict_text SnapCut = codes "snapcut"
 verdict_text (BadIp fault) = codes "badip " ++ ip_text fault

@@ -1,14 +1,19 @@
 // What becomes of one record of the trace.
 ghost use Rattle.std.specs.Prelude.{◌≡◌, ◌<◌, ◌≤◌, length, IfOk, OnOk, []};
 ghost use Rattle.std.specs.List.{AllByRecursion};
-ghost use Rattle.yoda_app.specs.Fold.{client_flow, is_client_syn, instance_of, syn_ack, handled, answer};
+ghost use Rattle.flow_id.specs.declared.key.Key.TheVariants as key;
+ghost use Rattle.flow_record.specs.Records.{FitsItsKey};
+ghost use Rattle.flow_record.specs.declared.record.Ask.TheVariants.{Add};
+ghost use Rattle.yoda_app.specs.Fold.{client_flow, is_client_syn, instance_of, syn_ack, syn_record, decided_number, syn_verdict, syn_outs, handled, answer};
 ghost use Rattle.yoda_app.specs.Outs.{IsShort};
 
-use crate::answered::Answered;
 use crate::incoming::Incoming;
 use crate::setup::Setup;
+use crate::stores::Stores;
 use crate::verdict::Verdict;
-use flow_id::{Flow, marks_of};
+use flow_id::{Flow, Key, marks_of};
+use flow_record::{Ask, Record};
+use replica_cell::Stepped;
 use seq_space::{Num, number};
 use std::alloc::{AllocError, Global};
 use tcp_segment::{ACK, Bytes, Head, Options, Outs, SYN, Segment};
@@ -60,7 +65,7 @@ fn instance_of(setup: &Setup, flow: &Flow) -> u16
     ((flow.address as u64 + flow.port as u64) % setup.instances as u64) as u16
 }
 
-// The answer to a client's SYN: it acknowledges the SYN's number, and has the flow's forged number as its own.
+// The answer to a client's SYN with this number: it acknowledges the number, and has the flow's forged number as its own.
 fn syn_ack(alloc: Global, setup: &Setup, flow: &Flow, seq: Num) -> Segment
     ensures fields { result ≡ syn_ack setup.now flow.now seq }
     ensures short { IsShort result }
@@ -86,41 +91,85 @@ fn syn_ack(alloc: Global, setup: &Setup, flow: &Flow, seq: Num) -> Segment
     }
 }
 
-// Answers a client's SYN, unless its flow was answered with another number.
+// What the store is asked for a client's SYN: its record, where none is decided yet. One without a maximum segment size
+// has the default of RFC 9293, section 3.7.1.
+fn syn_ask(flow: Flow, head: &Head) -> Ask
+    ensures ask { result ≡ Add (key.Syn flow) (syn_record head.now) }
+    ensures fits { FitsItsKey result }
+{
+    let record = Record::Syn {
+        number: head.seq,
+        mss: head.options.mss.unwrap_or(536),
+        window: head.window,
+    };
+    Ask::Add(Key::Syn(flow), record)
+}
+
+// The number of the SYN that the store decided, None where it decided none.
+fn decided_number(said: Stepped) -> Option<Num>
+    ensures { result ≡ decided_number said }
+{
+    match said {
+        Stepped::Decided(Record::Syn { number, .. }) => Some(number),
+        _ => None,
+    }
+}
+
+// The verdict on a client's SYN, by the number that was decided.
+fn syn_verdict(seq: Num, decided: Option<Num>) -> Verdict
+    ensures { result ≡ syn_verdict seq decided }
+{
+    match decided {
+        Some(number) if number == seq => Verdict::Answered,
+        Some(number) => Verdict::OtherNumber(number.0),
+        None => Verdict::StoreDown,
+    }
+}
+
+// What is sent for a client's SYN, by the number that was decided.
+fn syn_outs(
+    alloc: Global,
+    setup: &Setup,
+    flow: &Flow,
+    seq: Num,
+    decided: Option<Num>,
+) -> Result<Outs, AllocError>
+    ensures outs { IfOk result (λ outs. outs ≡ syn_outs setup.now flow.now seq decided) }
+    ensures short { IfOk result (AllByRecursion IsShort) }
+    ensures few { IfOk result (λ outs. length outs ≤ 11) }
+{
+    match decided {
+        Some(number) if number == seq => {
+            let outs = vec![in alloc; syn_ack(alloc, setup, flow, number)]?;
+            Ok(Outs::new(outs))
+        }
+        _ => Ok(Outs::new(Vec::new(alloc))),
+    }
+}
+
+// Puts a client's SYN into the store, and answers it where it is what the store decides.
 fn answer(
     alloc: Global,
     setup: &Setup,
-    answered: &mut Answered,
+    stores: &mut Stores,
     incoming: &Incoming,
 ) -> Result<Handled, AllocError>
     requires { 0 < setup.now.instances }
-    ensures flows { OnOk result (answered.new ≡ (answer setup.now answered.old incoming.now).flows) }
-    ensures line { IfOk result (λ h. h.line ≡ (answer setup.now answered.old incoming.now).line) }
-    ensures outs { IfOk result (λ h. h.outs ≡ (answer setup.now answered.old incoming.now).outs) }
+    ensures stores { OnOk result (stores.new ≡ (answer setup.now stores.old incoming.now).stores) }
+    ensures line { IfOk result (λ h. h.line ≡ (answer setup.now stores.old incoming.now).line) }
+    ensures outs { IfOk result (λ h. h.outs ≡ (answer setup.now stores.old incoming.now).outs) }
     ensures short { IfOk result (λ h. AllByRecursion IsShort h.outs) }
     ensures few { IfOk result (λ h. length h.outs ≤ 11) }
 {
     let flow = client_flow(setup, incoming);
-    let instance = Some(instance_of(setup, &flow));
     let seq = incoming.head.seq;
-    let before = answered.decide(flow, seq.0)?;
-    if before != seq.0 {
-        return Ok(Handled {
-            line: Line {
-                instance,
-                verdict: Verdict::OtherNumber(before),
-            },
-            outs: Outs::new(Vec::new(alloc)),
-        });
-    }
-    let outs = vec![in alloc; syn_ack(alloc, setup, &flow, seq)]?;
-    Ok(Handled {
-        line: Line {
-            instance,
-            verdict: Verdict::Answered,
-        },
-        outs: Outs::new(outs),
-    })
+    let decided = decided_number(stores.decide(&flow, syn_ask(flow, &incoming.head))?);
+    let outs = syn_outs(alloc, setup, &flow, seq, decided)?;
+    let line = Line {
+        instance: Some(instance_of(setup, &flow)),
+        verdict: syn_verdict(seq, decided),
+    };
+    Ok(Handled { line, outs })
 }
 
 // A record that no instance handled, and for which nothing is sent.
@@ -142,20 +191,20 @@ fn unhandled(alloc: Global, verdict: Verdict) -> Handled
 pub fn handle(
     alloc: Global,
     setup: &Setup,
-    answered: &mut Answered,
+    stores: &mut Stores,
     incoming: &Result<Incoming, Verdict>,
 ) -> Result<Handled, AllocError>
     requires { 0 < setup.now.instances }
-    ensures flows { OnOk result (answered.new ≡ (handled setup.now answered.old incoming.now).flows) }
-    ensures line { IfOk result (λ h. h.line ≡ (handled setup.now answered.old incoming.now).line) }
-    ensures outs { IfOk result (λ h. h.outs ≡ (handled setup.now answered.old incoming.now).outs) }
+    ensures stores { OnOk result (stores.new ≡ (handled setup.now stores.old incoming.now).stores) }
+    ensures line { IfOk result (λ h. h.line ≡ (handled setup.now stores.old incoming.now).line) }
+    ensures outs { IfOk result (λ h. h.outs ≡ (handled setup.now stores.old incoming.now).outs) }
     // Each segment that is sent fits a packet, and they are 11 at most.
     ensures short { IfOk result (λ h. AllByRecursion IsShort h.outs) }
     ensures few { IfOk result (λ h. length h.outs ≤ 11) }
 {
     match incoming {
         Err(verdict) => Ok(unhandled(alloc, *verdict)),
-        Ok(incoming) if is_client_syn(setup, incoming) => answer(alloc, setup, answered, incoming),
+        Ok(incoming) if is_client_syn(setup, incoming) => answer(alloc, setup, stores, incoming),
         Ok(_) => Ok(unhandled(alloc, Verdict::NotBuilt)),
     }
 }

@@ -13,7 +13,6 @@ ghost use Rattle.yoda_app.specs.DumpCommand.{dump_command};
 ghost use Rattle.yoda_app.specs.Plain.{plain_command};
 ghost use Rattle.yoda_app.specs.Words.{texts, are_plain, are_dump};
 
-mod answered;
 mod dump;
 mod dump_line;
 mod dump_text;
@@ -28,6 +27,7 @@ mod refusal;
 mod report;
 mod rules;
 mod setup;
+mod stores;
 mod texts;
 mod trace;
 mod verdict;

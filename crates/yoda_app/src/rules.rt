@@ -60,6 +60,7 @@ pub fn built_setup(alloc: Global) -> Result<Setup, AllocError>
     Ok(Setup {
         instances: 2,
         shards: 4,
+        copies: 3,
         secret: SECRET,
         service: Service {
             number: 0,

@@ -63,6 +63,8 @@ pub struct Setup {
     pub instances: u16,
     /// The number of shards of the store.
     pub shards: u8,
+    /// The number of cells of each shard.
+    pub copies: u8,
     /// The secret by which forged numbers are hashed.
     pub secret: [u8; 32],
     pub service: Service,

@@ -109,8 +109,10 @@ fn each_record_has_its_verdict(rt: HostRuntime) -> Result<(), Fail> {
     let mut other = SYN;
     other[27] = 0xe9;
     other[37] = 0x33;
-    let mut twice = capture_of(alloc, 0, &SYN)?;
-    add_record(&mut twice, 0, &other)?;
+    let mut again = capture_of(alloc, 0, &SYN)?;
+    add_record(&mut again, 0, &SYN)?;
+    let mut renumbered = capture_of(alloc, 0, &SYN)?;
+    add_record(&mut renumbered, 0, &other)?;
     let mut bad_sum = SYN;
     bad_sum[37] = 0x35;
     let mut fragment = SYN;
@@ -120,8 +122,9 @@ fn each_record_has_its_verdict(rt: HostRuntime) -> Result<(), Fail> {
     to_port_81[23] = 81;
     to_port_81[37] = 0x33;
     let rows = [
+        (again, "0 1 answered\n1 1 answered\nrecords 2 outs 2\n"),
         (
-            twice,
+            renumbered,
             "0 1 answered\n1 1 othernumber 1000\nrecords 2 outs 1\n",
         ),
         (

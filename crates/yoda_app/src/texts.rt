@@ -1,18 +1,20 @@
 // What `plain` writes: the capture of what is sent, and the report.
-ghost use Rattle.std.specs.Prelude.{◌≡◌, ◌≤◌, ◌<◌, ◌++◌, [], length, IfOk, OnOk};
+ghost use Rattle.std.specs.Prelude.{◌≡◌, ◌≤◌, ◌<◌, ◌++◌, length, IfOk, OnOk};
 ghost use Rattle.std.specs.List.{AllByRecursion};
 ghost use Rattle.std.specs.String.{string_bytes};
+ghost use Rattle.flow_id.specs.Ports.{IsShardCount};
 ghost use Rattle.pcap_file.specs.Frames.{capture_of, left_of};
 ghost use Rattle.pcap_file.specs.Written.{record_bytes};
 ghost use Rattle.tcp_segment.specs.Written.{packet_bytes};
 ghost use Rattle.yoda_app.specs.Fold.{steps};
 ghost use Rattle.yoda_app.specs.Outs.{IsShort, sent_for, all_sent, outs_text};
 ghost use Rattle.yoda_app.specs.Reports.{report_line, report_lines, outs_count, report_text};
+ghost use Rattle.yoda_app.specs.Stores.{opening};
 
-use crate::answered::Answered;
 use crate::handling::{Handled, handle};
 use crate::report::{add_end, add_line};
 use crate::setup::Setup;
+use crate::stores::Stores;
 use crate::trace::{TRACE_BYTES, TRACE_RECORDS, incoming};
 use pcap_file::{Frame, Reader, write_header, write_record};
 use std::alloc::{AllocError, Global};
@@ -81,23 +83,24 @@ fn add_records(
     trace: &[u8],
 ) -> Result<Counts, AllocError>
     requires instances { 0 < setup.now.instances }
+    requires shards { IsShardCount setup.now.shards }
     requires fits { length trace.now ≤ TRACE_BYTES }
     requires few { length (left_of reader.old trace.now).frames ≤ TRACE_RECORDS }
     requires inside { reader.old.place ≤ length trace.now }
     ensures out { OnOk result (
         let frames = (left_of reader.old trace.now).frames in
-        texts.new.out.items ≡ texts.old.out.items ++ all_sent frames (steps setup.now [] trace.now frames)) }
+        texts.new.out.items ≡ texts.old.out.items ++ all_sent frames (steps setup.now (opening setup.now) trace.now frames)) }
     ensures report { OnOk result (
         let frames = (left_of reader.old trace.now).frames in
-        string_bytes texts.new.report ≡ string_bytes texts.old.report ++ report_lines 0 (steps setup.now [] trace.now frames)) }
-    ensures records { IfOk result (λ c. c.records ≡ length (steps setup.now [] trace.now (left_of reader.old trace.now).frames)) }
-    ensures outs { IfOk result (λ c. c.outs ≡ outs_count (steps setup.now [] trace.now (left_of reader.old trace.now).frames)) }
+        string_bytes texts.new.report ≡ string_bytes texts.old.report ++ report_lines 0 (steps setup.now (opening setup.now) trace.now frames)) }
+    ensures records { IfOk result (λ c. c.records ≡ length (steps setup.now (opening setup.now) trace.now (left_of reader.old trace.now).frames)) }
+    ensures outs { IfOk result (λ c. c.outs ≡ outs_count (steps setup.now (opening setup.now) trace.now (left_of reader.old trace.now).frames)) }
 {
-    let mut answered = Answered::new(alloc);
+    let mut stores = Stores::new(alloc, setup.shards, setup.copies)?;
     let mut records = 0;
     let mut outs = 0;
     while let Ok(Some(frame)) = reader.next(trace) {
-        let handled = handle(alloc, setup, &mut answered, &incoming(trace, &frame))?;
+        let handled = handle(alloc, setup, &mut stores, &incoming(trace, &frame))?;
         add_record(texts, records, &frame, &handled)?;
         records += 1;
         outs += handled.outs.as_slice().len() as u32;
@@ -108,14 +111,15 @@ fn add_records(
 /// What `plain` writes of a trace's records up to its end or its first fault. The one error is want of memory.
 pub fn plain_texts(alloc: Global, setup: &Setup, trace: &[u8]) -> Result<Texts, AllocError>
     requires instances { 0 < setup.now.instances }
+    requires shards { IsShardCount setup.now.shards }
     requires fits { length trace.now ≤ TRACE_BYTES }
     requires few { length (capture_of trace.now).frames ≤ TRACE_RECORDS }
     ensures out { IfOk result (λ t.
         let frames = (capture_of trace.now).frames in
-        t.out.items ≡ outs_text frames (steps setup.now [] trace.now frames)) }
+        t.out.items ≡ outs_text frames (steps setup.now (opening setup.now) trace.now frames)) }
     ensures report { IfOk result (λ t.
         let frames = (capture_of trace.now).frames in
-        string_bytes t.report ≡ report_text (steps setup.now [] trace.now frames)) }
+        string_bytes t.report ≡ report_text (steps setup.now (opening setup.now) trace.now frames)) }
 {
     let mut out = Vec::new(alloc);
     write_header(&mut out)?;

@@ -11,6 +11,8 @@ pub enum Verdict {
     Answered,
     /// A SYN of this flow was answered before, and it had this other sequence number.
     OtherNumber(u32),
+    /// Each cell of the flow's shard has failed.
+    StoreDown,
     /// The frame holds no IPv4 packet.
     NotIpv4,
     /// The capture keeps less of the frame than there was.
@@ -34,6 +36,7 @@ impl Display for Verdict {
         match self {
             Verdict::Answered => write!(f, "answered"),
             Verdict::OtherNumber(number) => write!(f, "othernumber {number}"),
+            Verdict::StoreDown => write!(f, "storedown"),
             Verdict::NotIpv4 => write!(f, "notipv4"),
             Verdict::SnapCut => write!(f, "snapcut"),
             Verdict::BadIp(IpFault::Short { need, have }) => write!(f, "badip short {need} {have}"),
