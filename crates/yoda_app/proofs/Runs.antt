@@ -8,7 +8,7 @@ use Rattle.yoda_app.specs.Ends.{IsEnd, stop_text, end_status}
 use Rattle.yoda_app.specs.Refusals.{status_of, refusal_text}
 use Rattle.yoda_app.specs.Written.{longer, AddsPart}
 use Rattle.yoda_app.specs.declared.refusal.Refusal.{Refusal}
-use Rattle.yoda_app.specs.declared.refusal.Refusal.TheVariants.{TraceBytes, TraceRecords, RulesNotBuilt, ScriptNotBuilt, Trace}
+use Rattle.yoda_app.specs.declared.refusal.Refusal.TheVariants.{RulesBytes, TraceBytes, TraceRecords, ScriptNotBuilt, Trace, Rules}
 use Rattle.yoda_app.specs.declared.ending.Stop.{Stop}
 use Rattle.yoda_app.specs.declared.ending.Stop.TheVariants.{Memory, Read, Refused, Write}
 use Rattle.yoda_app.proofs.Outputs.{AreApart, kept, written_on, stopped_on}
@@ -18,18 +18,24 @@ use Rattle.yoda_app.proofs.Rising.{rose_since, rose_until}
 abbrev pub IsElsewhere : Command → Contents → Contents → Type 0
 IsElsewhere c old new = (n : List ℕ) → n ≢ error_name → (Contains c.outputs n → ⊥) → new n ≡ old n
 
-refusal_status : (f : Refusal) → (status_of f ≡ 5) ⊎ (status_of f ≡ 8) ⊎ (status_of f ≡ 10)
-refusal_status (TraceBytes n) = inr (inl refl)
-refusal_status TraceRecords = inr (inl refl)
-refusal_status RulesNotBuilt = inr (inr refl)
-refusal_status ScriptNotBuilt = inr (inr refl)
-refusal_status (Trace fault) = inl refl
+-- the statuses of refusals
+abbrev OfRefusal : ℕ → Type 0
+OfRefusal status = (status ≡ 5) ⊎ (status ≡ 6) ⊎ (status ≡ 8) ⊎ (status ≡ 10)
 
--- the statuses of refusals are none of the others
-not_of_refusal : (status n : ℕ) → (status ≡ 5) ⊎ (status ≡ 8) ⊎ (status ≡ 10) → status ≡ n → n ≢ 5 → n ≢ 8 → n ≢ 10 → ⊥
-not_of_refusal status n (inl five) same a b c = a (sym same ∙ five)
-not_of_refusal status n (inr (inl eight)) same a b c = b (sym same ∙ eight)
-not_of_refusal status n (inr (inr ten)) same a b c = c (sym same ∙ ten)
+refusal_status : (f : Refusal) → OfRefusal (status_of f)
+refusal_status (RulesBytes n) = inr (inr (inl refl))
+refusal_status (TraceBytes n) = inr (inr (inl refl))
+refusal_status TraceRecords = inr (inr (inl refl))
+refusal_status ScriptNotBuilt = inr (inr (inr refl))
+refusal_status (Trace fault) = inl refl
+refusal_status (Rules fault) = inr (inl refl)
+
+-- they are none of the others
+not_of_refusal : (status n : ℕ) → OfRefusal status → status ≡ n → n ≢ 5 → n ≢ 6 → n ≢ 8 → n ≢ 10 → ⊥
+not_of_refusal status n (inl five) same a b c d = a (sym same ∙ five)
+not_of_refusal status n (inr (inl six)) same a b c d = b (sym same ∙ six)
+not_of_refusal status n (inr (inr (inl eight))) same a b c d = c (sym same ∙ eight)
+not_of_refusal status n (inr (inr (inr ten))) same a b c d = d (sym same ∙ ten)
 
 run_done : (c : Command) (s : Change) → IsDone c s → IsElsewhere c s.old s.new → IsRun c s 0
 run_done c s done elsewhere = record {
@@ -37,7 +43,7 @@ run_done c s done elsewhere = record {
   done = λ _. done;
   read_fault = λ e. absurd (omega (arith, e));
   write_fault = λ e. absurd (omega (arith, e));
-  refused = λ e. absurd (not_of_refusal 0 0 e refl (λ x. omega (arith, x)) (λ x. omega (arith, x)) (λ x. omega (arith, x)));
+  refused = λ e. absurd (not_of_refusal 0 0 e refl (λ x. omega (arith, x)) (λ x. omega (arith, x)) (λ x. omega (arith, x)) (λ x. omega (arith, x)));
   no_memory = λ e. absurd (omega (arith, e));
   only = λ told f e. absurd (let n : c.refusal (held s.old) ≡ None = done.accepted told in cc);
   complete = λ told quiet. inr (sym (ap judged_status (done.accepted told)));
@@ -50,7 +56,7 @@ run_read c s n fault says elsewhere = record {
   done = λ e. absurd (omega (arith, e));
   read_fault = λ _. (n, fault, says);
   write_fault = λ e. absurd (omega (arith, e));
-  refused = λ e. absurd (not_of_refusal 3 3 e refl (λ x. omega (arith, x)) (λ x. omega (arith, x)) (λ x. omega (arith, x)));
+  refused = λ e. absurd (not_of_refusal 3 3 e refl (λ x. omega (arith, x)) (λ x. omega (arith, x)) (λ x. omega (arith, x)) (λ x. omega (arith, x)));
   no_memory = λ e. absurd (omega (arith, e));
   only = λ told f e. inl refl;
   complete = λ told quiet. absurd (quiet.inputs n fault.named fault.rose);
@@ -63,7 +69,7 @@ run_write c s n fault says elsewhere = record {
   done = λ e. absurd (omega (arith, e));
   read_fault = λ e. absurd (omega (arith, e));
   write_fault = λ _. (n, fault, says);
-  refused = λ e. absurd (not_of_refusal 4 4 e refl (λ x. omega (arith, x)) (λ x. omega (arith, x)) (λ x. omega (arith, x)));
+  refused = λ e. absurd (not_of_refusal 4 4 e refl (λ x. omega (arith, x)) (λ x. omega (arith, x)) (λ x. omega (arith, x)) (λ x. omega (arith, x)));
   no_memory = λ e. absurd (omega (arith, e));
   only = λ told f e. absurd (let n : c.refusal (held s.old) ≡ None = fault.accepted told in cc);
   complete = λ told quiet. absurd (quiet.outputs n fault.named fault.rose);
@@ -72,31 +78,32 @@ run_write c s n fault says elsewhere = record {
 
 run_memory : (c : Command) (s : Change) → IsUntouched s → SaysLine s memory_text → IsElsewhere c s.old s.new → IsRun c s 9
 run_memory c s untouched says elsewhere = record {
-  statuses = inr (inr (inr (inr (inr (inl refl)))));
+  statuses = inr (inr (inr (inr (inr (inr (inl refl))))));
   done = λ e. absurd (omega (arith, e));
   read_fault = λ e. absurd (omega (arith, e));
   write_fault = λ e. absurd (omega (arith, e));
-  refused = λ e. absurd (not_of_refusal 9 9 e refl (λ x. omega (arith, x)) (λ x. omega (arith, x)) (λ x. omega (arith, x)));
+  refused = λ e. absurd (not_of_refusal 9 9 e refl (λ x. omega (arith, x)) (λ x. omega (arith, x)) (λ x. omega (arith, x)) (λ x. omega (arith, x)));
   no_memory = λ _. (untouched, says);
   only = λ told f e. inr (inl refl);
   complete = λ told quiet. inl refl;
   elsewhere = elsewhere;
 }
 
-all_statuses : (status : ℕ) → (status ≡ 5) ⊎ (status ≡ 8) ⊎ (status ≡ 10) → (status ≡ 0) ⊎ (status ≡ 3) ⊎ (status ≡ 4) ⊎ (status ≡ 5) ⊎ (status ≡ 8) ⊎ (status ≡ 9) ⊎ (status ≡ 10)
+all_statuses : (status : ℕ) → OfRefusal status → (status ≡ 0) ⊎ (status ≡ 3) ⊎ (status ≡ 4) ⊎ (status ≡ 5) ⊎ (status ≡ 6) ⊎ (status ≡ 8) ⊎ (status ≡ 9) ⊎ (status ≡ 10)
 all_statuses status (inl five) = inr (inr (inr (inl five)))
-all_statuses status (inr (inl eight)) = inr (inr (inr (inr (inl eight))))
-all_statuses status (inr (inr ten)) = inr (inr (inr (inr (inr (inr ten)))))
+all_statuses status (inr (inl six)) = inr (inr (inr (inr (inl six))))
+all_statuses status (inr (inr (inl eight))) = inr (inr (inr (inr (inr (inl eight)))))
+all_statuses status (inr (inr (inr ten))) = inr (inr (inr (inr (inr (inr (inr ten))))))
 
 run_refused : (c : Command) (s : Change) (f : Refusal) → IsRefused c s f → SaysLine s (refusal_text f) → IsElsewhere c s.old s.new → IsRun c s (status_of f)
 run_refused c s f refused says elsewhere =
     let is = refusal_status f in record {
       statuses = all_statuses (status_of f) is;
-      done = λ e. absurd (not_of_refusal (status_of f) 0 is e (λ x. omega (arith, x)) (λ x. omega (arith, x)) (λ x. omega (arith, x)));
-      read_fault = λ e. absurd (not_of_refusal (status_of f) 3 is e (λ x. omega (arith, x)) (λ x. omega (arith, x)) (λ x. omega (arith, x)));
-      write_fault = λ e. absurd (not_of_refusal (status_of f) 4 is e (λ x. omega (arith, x)) (λ x. omega (arith, x)) (λ x. omega (arith, x)));
+      done = λ e. absurd (not_of_refusal (status_of f) 0 is e (λ x. omega (arith, x)) (λ x. omega (arith, x)) (λ x. omega (arith, x)) (λ x. omega (arith, x)));
+      read_fault = λ e. absurd (not_of_refusal (status_of f) 3 is e (λ x. omega (arith, x)) (λ x. omega (arith, x)) (λ x. omega (arith, x)) (λ x. omega (arith, x)));
+      write_fault = λ e. absurd (not_of_refusal (status_of f) 4 is e (λ x. omega (arith, x)) (λ x. omega (arith, x)) (λ x. omega (arith, x)) (λ x. omega (arith, x)));
       refused = λ _. (f, refl, refused, says);
-      no_memory = λ e. absurd (not_of_refusal (status_of f) 9 is e (λ x. omega (arith, x)) (λ x. omega (arith, x)) (λ x. omega (arith, x)));
+      no_memory = λ e. absurd (not_of_refusal (status_of f) 9 is e (λ x. omega (arith, x)) (λ x. omega (arith, x)) (λ x. omega (arith, x)) (λ x. omega (arith, x)));
       only = λ told g e. inr (inr (let h : c.refusal (held s.old) ≡ Some f = refused.cause told in let same : f ≡ g = cc in ap status_of same));
       complete = λ told quiet. inr (sym (ap judged_status (refused.cause told)));
       elsewhere = elsewhere;

@@ -128,11 +128,11 @@ judged_status (Some f) = status_of f
 -- what a command with right words answers and leaves. Status 9, want of memory, may come in place of each status but 4.
 pub record IsRun (c : Command) (s : Change) (status : ℕ) : Type 0 where
   pub statuses :
-      (status ≡ 0) ⊎ (status ≡ 3) ⊎ (status ≡ 4) ⊎ (status ≡ 5) ⊎ (status ≡ 8) ⊎ (status ≡ 9) ⊎ (status ≡ 10)
+      (status ≡ 0) ⊎ (status ≡ 3) ⊎ (status ≡ 4) ⊎ (status ≡ 5) ⊎ (status ≡ 6) ⊎ (status ≡ 8) ⊎ (status ≡ 9) ⊎ (status ≡ 10)
   pub done : status ≡ 0 → IsDone c s
   pub read_fault : status ≡ 3 → (n : List ℕ) × IsReadFault c s n × SaysLine s (read_text n)
   pub write_fault : status ≡ 4 → (n : List ℕ) × IsWriteFault c s n × SaysLine s (write_text n)
-  pub refused : (status ≡ 5) ⊎ (status ≡ 8) ⊎ (status ≡ 10) → (f : Refusal) × (status ≡ status_of f) × IsRefused c s f × SaysLine s (refusal_text f)
+  pub refused : (status ≡ 5) ⊎ (status ≡ 6) ⊎ (status ≡ 8) ⊎ (status ≡ 10) → (f : Refusal) × (status ≡ status_of f) × IsRefused c s f × SaysLine s (refusal_text f)
   pub no_memory : status ≡ 9 → IsUntouched s × SaysLine s memory_text
   -- where it is refused, nothing else comes but a fault of reading before, or want of memory
   pub only : AreTold s.old c.inputs → (f : Refusal) → c.refusal (held s.old) ≡ Some f → (status ≡ 3) ⊎ (status ≡ 9) ⊎ (status ≡ status_of f)

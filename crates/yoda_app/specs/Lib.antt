@@ -9,7 +9,6 @@ pub mod Outs
 pub mod Plain
 pub mod Refusals
 pub mod Reports
-pub mod Rules
 pub mod Setups
 pub mod Stores
 pub mod Verdicts

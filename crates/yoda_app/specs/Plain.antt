@@ -3,6 +3,7 @@
 use Rattle.std.specs.Prelude.{◌≡◌, ℕ, List, [], ◌∷◌, IfOk}
 use Rattle.std.specs.Result.{result_err}
 use Rattle.pcap_file.specs.Frames.{capture_of}
+use Rattle.rule_table.specs.Setups.{SetupView}
 use Rattle.yoda_app.specs.Commands.{Command}
 use Rattle.yoda_app.specs.Fold.{steps}
 use Rattle.yoda_app.specs.Judgement.{judged}
@@ -10,11 +11,10 @@ use Rattle.yoda_app.specs.Outs.{outs_text}
 use Rattle.yoda_app.specs.Reports.{report_text}
 use Rattle.yoda_app.specs.Stores.{opening}
 use Rattle.yoda_app.specs.Words.{word}
-use Rattle.yoda_app.specs.declared.setup.Setup.{Setup}
 use Rattle.yoda_app.specs.declared.words.PlainNames.{PlainNames}
 
 -- what is written: the capture of what is sent, and the report
-abbrev pub plain_texts : Setup → List ℕ → List (List ℕ)
+abbrev pub plain_texts : SetupView → List ℕ → List (List ℕ)
 plain_texts setup trace =
     let frames = (capture_of trace).frames in
     let steps = steps setup (opening setup) trace frames in

@@ -1,12 +1,12 @@
--- What the balancer is set up with, and who is who by address and port.
-use Rattle.std.specs.Prelude.{ℕ, Bool, ◌==◌, ◌&&◌}
-use Rattle.std.specs.List.{list_any}
-use Rattle.yoda_app.specs.declared.setup.Setup.{Setup}
+-- Who is who by address and port.
+use Rattle.std.specs.Prelude.{ℕ, Bool, ◌==◌, ◌&&◌, is_some}
+use Rattle.rule_table.specs.Matching.{place_of}
+use Rattle.rule_table.specs.Setups.{SetupView}
 
 -- this is the service's address and port
-abbrev pub is_service : Setup → ℕ → ℕ → Bool
+abbrev pub is_service : SetupView → ℕ → ℕ → Bool
 is_service setup address port = address == setup.service.address && port == setup.service.port
 
 -- a server has this address and port
-abbrev pub is_server : Setup → ℕ → ℕ → Bool
-is_server setup address port = list_any (λ s. s.address == address && s.port == port) setup.servers
+abbrev pub is_server : SetupView → ℕ → ℕ → Bool
+is_server setup address port = is_some (place_of setup.servers address port)

@@ -5,14 +5,14 @@ use Rattle.flow_id.specs.declared.key.Flow.{Flow}
 use Rattle.flow_record.specs.declared.record.Ask.{Ask}
 use Rattle.replica_cell.specs.Cells.{Replica, empty}
 use Rattle.replica_cell.specs.declared.walk.Stepped.{Stepped}
+use Rattle.rule_table.specs.Setups.{SetupView}
 use Rattle.store_walk.specs.Decides.{decided}
-use Rattle.yoda_app.specs.declared.setup.Setup.{Setup}
 
 abbrev pub Stores : Type 0
 Stores = List (List Replica)
 
 -- before the first record: for each shard so many empty living replicas
-abbrev pub opening : Setup → Stores
+abbrev pub opening : SetupView → Stores
 opening setup = replicate setup.shards (replicate setup.copies empty)
 
 -- the shard of a flow among so many

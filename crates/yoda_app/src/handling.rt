@@ -6,14 +6,15 @@ ghost use Rattle.flow_record.specs.Records.{FitsItsKey};
 ghost use Rattle.flow_record.specs.declared.record.Ask.TheVariants.{Add};
 ghost use Rattle.yoda_app.specs.Fold.{client_flow, is_client_syn, instance_of, syn_ack, syn_record, decided_number, syn_verdict, syn_outs, handled, answer};
 ghost use Rattle.yoda_app.specs.Outs.{IsShort};
+ghost use Rattle.yoda_app.specs.Setups.{is_service};
 
 use crate::incoming::Incoming;
-use crate::setup::Setup;
 use crate::stores::Stores;
 use crate::verdict::Verdict;
 use flow_id::{Flow, Key, marks_of};
 use flow_record::{Ask, Record};
 use replica_cell::Stepped;
+use rule_table::Setup;
 use seq_space::{Num, number};
 use std::alloc::{AllocError, Global};
 use tcp_segment::{ACK, Bytes, Head, Options, Outs, SYN, Segment};
@@ -32,13 +33,21 @@ pub struct Handled {
     pub outs: Outs,
 }
 
+// Whether this is the service's address and port.
+fn is_service(setup: &Setup, address: u32, port: u16) -> bool
+    ensures { result ≡ is_service setup.now address port }
+{
+    let service = setup.service();
+    address == service.address && port == service.port
+}
+
 // Whether a client opens a connection to the service: of the flags SYN, ACK, RST and FIN it has SYN alone.
 fn is_client_syn(setup: &Setup, incoming: &Incoming) -> bool
     ensures { result ≡ is_client_syn setup.now incoming.now }
 {
     let head = &incoming.head;
-    setup.is_service(incoming.target, head.target_port)
-        && !setup.is_server(incoming.source, head.source_port)
+    is_service(setup, incoming.target, head.target_port)
+        && setup.server_at(incoming.source, head.source_port).is_none()
         && head.has_syn()
         && !head.has_ack()
         && !head.has_rst()
@@ -50,7 +59,7 @@ fn client_flow(setup: &Setup, incoming: &Incoming) -> Flow
     ensures { result ≡ client_flow setup.now incoming.now }
 {
     Flow {
-        service: setup.service.number,
+        service: setup.service().number,
         address: incoming.source,
         port: incoming.head.source_port,
         life: 0,
@@ -59,10 +68,10 @@ fn client_flow(setup: &Setup, incoming: &Incoming) -> Flow
 
 // The instance that handles a client's flow where no script says otherwise.
 fn instance_of(setup: &Setup, flow: &Flow) -> u16
-    requires { 0 < setup.now.instances }
     ensures { result ≡ instance_of setup.now flow.now }
 {
-    ((flow.address as u64 + flow.port as u64) % setup.instances as u64) as u16
+    setup.known();
+    ((flow.address as u64 + flow.port as u64) % setup.instances() as u64) as u16
 }
 
 // The answer to a client's SYN with this number: it acknowledges the number, and has the flow's forged number as its own.
@@ -70,12 +79,13 @@ fn syn_ack(alloc: Global, setup: &Setup, flow: &Flow, seq: Num) -> Segment
     ensures fields { result ≡ syn_ack setup.now flow.now seq }
     ensures short { IsShort result }
 {
-    let marks = marks_of(&setup.secret, flow);
+    let service = setup.service();
+    let marks = marks_of(setup.secret(), flow);
     Segment {
-        source: setup.service.address,
+        source: service.address,
         target: flow.address,
         head: Head {
-            source_port: setup.service.port,
+            source_port: service.port,
             target_port: flow.port,
             seq: Num(marks.forged),
             ack: number(seq, 1),
@@ -154,7 +164,6 @@ fn answer(
     stores: &mut Stores,
     incoming: &Incoming,
 ) -> Result<Handled, AllocError>
-    requires { 0 < setup.now.instances }
     ensures stores { OnOk result (stores.new ≡ (answer setup.now stores.old incoming.now).stores) }
     ensures line { IfOk result (λ h. h.line ≡ (answer setup.now stores.old incoming.now).line) }
     ensures outs { IfOk result (λ h. h.outs ≡ (answer setup.now stores.old incoming.now).outs) }
@@ -194,7 +203,6 @@ pub fn handle(
     stores: &mut Stores,
     incoming: &Result<Incoming, Verdict>,
 ) -> Result<Handled, AllocError>
-    requires { 0 < setup.now.instances }
     ensures stores { OnOk result (stores.new ≡ (handled setup.now stores.old incoming.now).stores) }
     ensures line { IfOk result (λ h. h.line ≡ (handled setup.now stores.old incoming.now).line) }
     ensures outs { IfOk result (λ h. h.outs ≡ (handled setup.now stores.old incoming.now).outs) }

@@ -1,15 +1,17 @@
 // Whether the inputs of a command are accepted.
-ghost use Rattle.std.specs.Prelude.{◌≡◌, ◌<◌, ◌≤◌, ℕ, List, length, nat_lt, IfOk, IfErr, Ok, Err, None, Some, false, true};
+ghost use Rattle.std.specs.Prelude.{◌≡◌, ◌<◌, ◌≤◌, ℕ, List, length, nat_lt, IfOk, IfErr, OnOk, Ok, Err, None, Some, false, true};
 ghost use Rattle.pcap_file.specs.Frames.{capture_of};
-ghost use Rattle.yoda_app.specs.Judgement.{above_limit, judged, trace_refusal};
-ghost use Rattle.yoda_app.specs.Rules.{are_built, built_setup};
+ghost use Rattle.rule_text.specs.Document.{rules_in};
+ghost use Rattle.yoda_app.specs.Judgement.{rules_limit, above_limit, set_up, judged, trace_refusal, IsUnfit};
 ghost use Rattle.yoda_app.specs.Whole.{IsWhole, IsWithin};
 
 use crate::reading::Whole;
 use crate::refusal::Refusal;
-use crate::rules::RULES;
 use crate::trace::{Survey, TRACE_BYTES, TRACE_RECORDS};
 use pcap_file::PcapFault;
+use rule_table::Setup;
+use rule_text::{RuleFault, rules_of};
+use std::alloc::Global;
 
 /// The number of bytes that a rules file has at most.
 pub const RULES_BYTES: u64 = 1_048_576;
@@ -25,12 +27,32 @@ pub struct Inputs {
     pub script: Whole,
 }
 
-fn are_built(rules: &Whole) -> bool
-    ensures { (content : List ℕ) → IsWhole RULES_BYTES content rules.now → result ≡ are_built content }
+/// Why the inputs of `plain` are not taken.
+#[derive(Debug, Drop)]
+pub enum Unfit {
+    /// They are refused.
+    Refused(Refusal),
+    /// There was no memory.
+    Memory,
+}
+
+/// What the inputs of `plain` give.
+#[derive(Drop)]
+pub struct Accepted<'a> {
+    pub setup: Setup,
+    /// The bytes of the trace.
+    pub trace: &'a [u8],
+}
+
+// The rules, where they are within their limit.
+fn rules_within(rules: &Whole) -> Result<&[u8], Refusal>
+    ensures bytes { IfOk result (λ b. (content : List ℕ) → IsWhole RULES_BYTES content rules.now → b.now ≡ content) }
+    ensures accepted { OnOk result ((content : List ℕ) → IsWhole RULES_BYTES content rules.now → rules_limit content ≡ None) }
+    ensures refused { IfErr result (λ f. (content : List ℕ) → IsWhole RULES_BYTES content rules.now → rules_limit content ≡ Some f) }
 {
     match rules {
-        Whole::Bytes(bytes) => bytes.as_slice() == RULES.as_bytes(),
-        Whole::Above(_) => false,
+        Whole::Bytes(bytes) => Ok(bytes),
+        Whole::Above(size) => Err(Refusal::RulesBytes(*size)),
     }
 }
 
@@ -48,6 +70,13 @@ fn has_lines(script: &Whole) -> bool
 pub struct Capture<'a> {
     pub bytes: &'a [u8],
     pub fault: Option<PcapFault>,
+}
+
+// The bytes of the rules and the trace.
+#[derive(Clone, Copy)]
+struct Admitted<'a> {
+    rules: &'a [u8],
+    trace: &'a [u8],
 }
 
 /// The trace, where it is within its limits. It takes no memory.
@@ -75,27 +104,65 @@ pub fn within_limits(trace: &Whole) -> Result<Capture<'_>, Refusal>
     }
 }
 
-/// The trace of `plain`, where its inputs are accepted, or else why they are refused. It takes no memory.
-pub fn judge(inputs: &Inputs) -> Result<&[u8], Refusal>
+// The rules and the trace of `plain`, where nothing but the rules can still be refused. It takes no memory.
+fn admit(inputs: &Inputs) -> Result<Admitted<'_>, Refusal>
     requires { IsWithin TRACE_BYTES inputs.now.trace }
-    ensures trace { IfOk result (λ b. (content : List ℕ) → IsWhole TRACE_BYTES content inputs.now.trace → b.now ≡ content) }
-    ensures fits { IfOk result (λ b. length b.now ≤ TRACE_BYTES) }
-    ensures few { IfOk result (λ b. length (capture_of b.now).frames ≤ TRACE_RECORDS) }
-    ensures accepted { IfOk result (λ b. (rules trace script : List ℕ) → IsWhole RULES_BYTES rules inputs.now.rules
-        → IsWhole TRACE_BYTES trace inputs.now.trace → IsWhole SCRIPT_BYTES script inputs.now.script → judged rules trace script ≡ Ok built_setup) }
+    ensures rules { IfOk result (λ a. (content : List ℕ) → IsWhole RULES_BYTES content inputs.now.rules → a.rules.now ≡ content) }
+    ensures trace { IfOk result (λ a. (content : List ℕ) → IsWhole TRACE_BYTES content inputs.now.trace → a.trace.now ≡ content) }
+    ensures fits { IfOk result (λ a. length a.trace.now ≤ TRACE_BYTES) }
+    ensures few { IfOk result (λ a. length (capture_of a.trace.now).frames ≤ TRACE_RECORDS) }
+    ensures accepted { OnOk result ((rules trace script : List ℕ) → IsWhole RULES_BYTES rules inputs.now.rules
+        → IsWhole TRACE_BYTES trace inputs.now.trace → IsWhole SCRIPT_BYTES script inputs.now.script → judged rules trace script ≡ set_up (rules_in rules)) }
     ensures refused { IfErr result (λ f. (rules trace script : List ℕ) → IsWhole RULES_BYTES rules inputs.now.rules
         → IsWhole TRACE_BYTES trace inputs.now.trace → IsWhole SCRIPT_BYTES script inputs.now.script → judged rules trace script ≡ Err f) }
 {
+    let rules = rules_within(&inputs.rules)?;
     let trace = within_limits(&inputs.trace)?;
-    if !are_built(&inputs.rules) {
-        return Err(Refusal::RulesNotBuilt);
-    }
     if has_lines(&inputs.script) {
         return Err(Refusal::ScriptNotBuilt);
     }
     match trace.fault {
         Some(fault) => Err(Refusal::Trace(fault)),
-        None => Ok(trace.bytes),
+        None => Ok(Admitted {
+            rules,
+            trace: trace.bytes,
+        }),
+    }
+}
+
+// What a rules file sets up.
+fn set_up(alloc: Global, rules: &[u8]) -> Result<Setup, Unfit>
+    ensures accepted { IfOk result (λ setup. set_up (rules_in rules.now) ≡ Ok setup) }
+    ensures refused { IfErr result (λ u. IsUnfit u (set_up (rules_in rules.now))) }
+{
+    match rules_of(alloc, rules) {
+        Ok(setup) => Ok(setup),
+        Err(RuleFault::Memory) => Err(Unfit::Memory),
+        Err(fault) => Err(Unfit::Refused(Refusal::Rules(fault))),
+    }
+}
+
+/// What the inputs of `plain` give, where they are accepted, or else why they are not taken.
+pub fn judge(alloc: Global, inputs: &Inputs) -> Result<Accepted<'_>, Unfit>
+    requires { IsWithin TRACE_BYTES inputs.now.trace }
+    ensures trace { IfOk result (λ a. (content : List ℕ) → IsWhole TRACE_BYTES content inputs.now.trace → a.trace.now ≡ content) }
+    ensures fits { IfOk result (λ a. length a.trace.now ≤ TRACE_BYTES) }
+    ensures few { IfOk result (λ a. length (capture_of a.trace.now).frames ≤ TRACE_RECORDS) }
+    ensures accepted { IfOk result (λ a. (rules trace script : List ℕ) → IsWhole RULES_BYTES rules inputs.now.rules
+        → IsWhole TRACE_BYTES trace inputs.now.trace → IsWhole SCRIPT_BYTES script inputs.now.script → judged rules trace script ≡ Ok a.setup) }
+    ensures refused { IfErr result (λ u. (rules trace script : List ℕ) → IsWhole RULES_BYTES rules inputs.now.rules
+        → IsWhole TRACE_BYTES trace inputs.now.trace → IsWhole SCRIPT_BYTES script inputs.now.script → IsUnfit u (judged rules trace script)) }
+{
+    let admitted = match admit(inputs) {
+        Ok(admitted) => admitted,
+        Err(refusal) => return Err(Unfit::Refused(refusal)),
+    };
+    match set_up(alloc, admitted.rules) {
+        Ok(setup) => Ok(Accepted {
+            setup,
+            trace: admitted.trace,
+        }),
+        Err(unfit) => Err(unfit),
     }
 }
 

@@ -25,8 +25,6 @@ mod plain;
 mod reading;
 mod refusal;
 mod report;
-mod rules;
-mod setup;
 mod stores;
 mod texts;
 mod trace;

@@ -9,9 +9,7 @@ ghost use Rattle.yoda_app.specs.Whole.{IsWhole, IsWithin};
 
 use crate::ending::{Stop, refuse};
 use crate::inputs::{read_input, write_output};
-use crate::judgement::{Inputs, RULES_BYTES, SCRIPT_BYTES, judge};
-use crate::refusal::Refusal;
-use crate::rules::built_setup;
+use crate::judgement::{Inputs, RULES_BYTES, SCRIPT_BYTES, Unfit, judge};
 use crate::texts::{Texts, plain_texts};
 use crate::trace::TRACE_BYTES;
 use crate::words::PlainNames;
@@ -60,12 +58,12 @@ fn prepare<'a, H: Shelf>(
     ensures stays { StaysSure (H.sure shelf.old) (H.sure shelf.new) }
 {
     let inputs = load(alloc, shelf, names)?;
-    let trace = match judge(&inputs) {
-        Ok(trace) => trace,
-        Err(refusal) => return Err(refuse(alloc, refusal)),
+    let accepted = match judge(alloc, &inputs) {
+        Ok(accepted) => accepted,
+        Err(Unfit::Memory) => return Err(Stop::Memory),
+        Err(Unfit::Refused(refusal)) => return Err(refuse(alloc, refusal)),
     };
-    let setup = built_setup(alloc)?;
-    Ok(plain_texts(alloc, &setup, trace)?)
+    Ok(plain_texts(alloc, &accepted.setup, accepted.trace)?)
 }
 
 // Writes the texts in their order.

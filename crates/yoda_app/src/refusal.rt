@@ -3,22 +3,25 @@ ghost use Rattle.std.specs.Prelude.{◌≡◌};
 ghost use Rattle.yoda_app.specs.Refusals.{status_of};
 
 use pcap_file::PcapFault;
+use rule_text::RuleFault;
 use std::fmt;
 use std::fmt::{Display, Formatter};
 
 /// Why a command is refused that could read its inputs.
-#[derive(Clone, Copy, Debug, PartialEq, Eq)]
+#[derive(Debug, Drop)]
 pub enum Refusal {
+    /// The rules file has so many bytes, which are above its limit.
+    RulesBytes(u64),
     /// The trace has so many bytes, which are above its limit.
     TraceBytes(u64),
     /// More records of the trace than its limit read without a fault.
     TraceRecords,
-    /// The rules are not the ones that are built.
-    RulesNotBuilt,
     /// The script is not empty.
     ScriptNotBuilt,
     /// The trace is no capture that is taken.
     Trace(PcapFault),
+    /// The rules file has this fault.
+    Rules(RuleFault),
 }
 
 impl Refusal {
@@ -27,9 +30,10 @@ impl Refusal {
         ensures { result ≡ status_of self.now }
     {
         match self {
-            Refusal::TraceBytes(_) | Refusal::TraceRecords => 8,
-            Refusal::RulesNotBuilt | Refusal::ScriptNotBuilt => 10,
+            Refusal::RulesBytes(_) | Refusal::TraceBytes(_) | Refusal::TraceRecords => 8,
+            Refusal::ScriptNotBuilt => 10,
             Refusal::Trace(_) => 5,
+            Refusal::Rules(_) => 6,
         }
     }
 }
@@ -43,9 +47,9 @@ impl Display for Refusal {
 
     fn fmt<W: fmt::Write>(&self, f: &mut Formatter<W>) -> fmt::Result {
         match self {
+            Refusal::RulesBytes(bytes) => write!(f, "limit: rules bytes {bytes}"),
             Refusal::TraceBytes(bytes) => write!(f, "limit: trace bytes {bytes}"),
             Refusal::TraceRecords => write!(f, "limit: trace records 262145"),
-            Refusal::RulesNotBuilt => write!(f, "not built: rules"),
             Refusal::ScriptNotBuilt => write!(f, "not built: script"),
             Refusal::Trace(PcapFault::HeaderCut(bytes)) => {
                 write!(f, "trace refused: header cut at {bytes}")
@@ -63,6 +67,7 @@ impl Display for Refusal {
             Refusal::Trace(PcapFault::TooLarge { at, kept: _ }) => {
                 write!(f, "trace refused: record too large at {at}")
             }
+            Refusal::Rules(fault) => write!(f, "rules refused: {fault}"),
         }
     }
 }

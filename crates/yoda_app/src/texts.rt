@@ -2,7 +2,6 @@
 ghost use Rattle.std.specs.Prelude.{◌≡◌, ◌≤◌, ◌<◌, ◌++◌, length, IfOk, OnOk};
 ghost use Rattle.std.specs.List.{AllByRecursion};
 ghost use Rattle.std.specs.String.{string_bytes};
-ghost use Rattle.flow_id.specs.Ports.{IsShardCount};
 ghost use Rattle.pcap_file.specs.Frames.{capture_of, left_of};
 ghost use Rattle.pcap_file.specs.Written.{record_bytes};
 ghost use Rattle.tcp_segment.specs.Written.{packet_bytes};
@@ -13,10 +12,10 @@ ghost use Rattle.yoda_app.specs.Stores.{opening};
 
 use crate::handling::{Handled, handle};
 use crate::report::{add_end, add_line};
-use crate::setup::Setup;
 use crate::stores::Stores;
 use crate::trace::{TRACE_BYTES, TRACE_RECORDS, incoming};
 use pcap_file::{Frame, Reader, write_header, write_record};
+use rule_table::Setup;
 use std::alloc::{AllocError, Global};
 use tcp_segment::{Segment, write};
 
@@ -82,8 +81,6 @@ fn add_records(
     reader: &mut Reader,
     trace: &[u8],
 ) -> Result<Counts, AllocError>
-    requires instances { 0 < setup.now.instances }
-    requires shards { IsShardCount setup.now.shards }
     requires fits { length trace.now ≤ TRACE_BYTES }
     requires few { length (left_of reader.old trace.now).frames ≤ TRACE_RECORDS }
     requires inside { reader.old.place ≤ length trace.now }
@@ -96,7 +93,8 @@ fn add_records(
     ensures records { IfOk result (λ c. c.records ≡ length (steps setup.now (opening setup.now) trace.now (left_of reader.old trace.now).frames)) }
     ensures outs { IfOk result (λ c. c.outs ≡ outs_count (steps setup.now (opening setup.now) trace.now (left_of reader.old trace.now).frames)) }
 {
-    let mut stores = Stores::new(alloc, setup.shards, setup.copies)?;
+    setup.known();
+    let mut stores = Stores::new(alloc, setup.shards(), setup.copies())?;
     let mut records = 0;
     let mut outs = 0;
     while let Ok(Some(frame)) = reader.next(trace) {
@@ -110,8 +108,6 @@ fn add_records(
 
 /// What `plain` writes of a trace's records up to its end or its first fault. The one error is want of memory.
 pub fn plain_texts(alloc: Global, setup: &Setup, trace: &[u8]) -> Result<Texts, AllocError>
-    requires instances { 0 < setup.now.instances }
-    requires shards { IsShardCount setup.now.shards }
     requires fits { length trace.now ≤ TRACE_BYTES }
     requires few { length (capture_of trace.now).frames ≤ TRACE_RECORDS }
     ensures out { IfOk result (λ t.

@@ -1,22 +1,12 @@
-use Rattle.std.proofs.Common.{sym, ◌∙◌}
-use Rattle.yoda_app.proofs.Judging.{judged_rules, judged_script, judged_fault, judged_ok}
+use Rattle.std.proofs.Common.{sym, ◌∙◌, ap, subst}
+use Rattle.rule_text.specs.Document.{rules_in}
+use Rattle.yoda_app.specs.Judgement.{set_up, IsUnfit}
 use Rattle.yoda_app.proofs.judgement.judge.Goals as goal
 
-pub returns-then-not-are_built-clause-refused : goal.returns-then-not-are_built-clause-refused
-returns-then-not-are_built-clause-refused c r t s is_r is_t is_s =
-    judged_rules r t s (c.in_ok-trace.ensures.accepted t is_t) (sym (c.are_built.ensures r is_r) ∙ c.if-not-are_built.true)
+pub returns-in-Ok-set_up-clause-accepted : goal.returns-in-Ok-set_up-clause-accepted
+returns-in-Ok-set_up-clause-accepted c r t s is_r is_t is_s =
+    c.in-Ok.ensures.accepted r t s is_r is_t is_s ∙ ap (λ b. set_up (rules_in b)) (sym (c.in-Ok.ensures.rules r is_r)) ∙ c.in-Ok-set_up.ensures.accepted
 
-pub returns-then-has_lines-clause-refused : goal.returns-then-has_lines-clause-refused
-returns-then-has_lines-clause-refused c r t s is_r is_t is_s =
-    judged_script r t s (c.in_ok-trace.ensures.accepted t is_t) (sym (c.are_built.ensures r is_r) ∙ c.if-not-are_built.false)
-    (sym (c.has_lines.ensures s is_s) ∙ c.if-has_lines.true)
-
-pub returns-in-Some-clause-refused : goal.returns-in-Some-clause-refused
-returns-in-Some-clause-refused c r t s is_r is_t is_s =
-    judged_fault r t s c.in-Some.fault (c.in_ok-trace.ensures.accepted t is_t) (sym (c.are_built.ensures r is_r) ∙ c.if-not-are_built.false)
-    (sym (c.has_lines.ensures s is_s) ∙ c.if-has_lines.false) (sym (c.in_ok-trace.ensures.fault t is_t) ∙ c.in-Some.is)
-
-pub returns-in-None-clause-accepted : goal.returns-in-None-clause-accepted
-returns-in-None-clause-accepted c r t s is_r is_t is_s =
-    judged_ok r t s (c.in_ok-trace.ensures.accepted t is_t) (sym (c.are_built.ensures r is_r) ∙ c.if-not-are_built.false)
-    (sym (c.has_lines.ensures s is_s) ∙ c.if-has_lines.false) (sym (c.in_ok-trace.ensures.fault t is_t) ∙ c.in-None.is)
+pub returns-in-Err-set_up-clause-refused : goal.returns-in-Err-set_up-clause-refused
+returns-in-Err-set_up-clause-refused c r t s is_r is_t is_s =
+    subst (IsUnfit c.in-Err-set_up.unfit) (ap (λ b. set_up (rules_in b)) (c.in-Ok.ensures.rules r is_r) ∙ sym (c.in-Ok.ensures.accepted r t s is_r is_t is_s)) c.in-Err-set_up.ensures.refused
