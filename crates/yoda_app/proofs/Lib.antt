@@ -1,4 +1,5 @@
 pub mod Filled
+pub mod FirstNumbers
 pub mod Given
 pub mod Judging
 pub mod Longer
@@ -7,5 +8,6 @@ pub mod Outputs
 pub mod Readings
 pub mod Rising
 pub mod Runs
+pub mod SameCells
 pub mod Sizes
 pub mod Stops

@@ -5,6 +5,7 @@ pub mod Ends
 pub mod Fold
 pub mod Incoming
 pub mod Judgement
+pub mod Laws
 pub mod Outs
 pub mod Plain
 pub mod Refusals
