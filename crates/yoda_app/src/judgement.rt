@@ -36,6 +36,17 @@ pub enum Unfit {
     Memory,
 }
 
+impl From<Refusal> for Unfit {
+    ghost use Rattle.std.specs.Prelude.{◌≡◌};
+    ghost use Rattle.yoda_app.specs.declared.judgement.Unfit.TheVariants.{Refused};
+
+    ghost from_gives = { λ refusal unfit. unfit ≡ Refused refusal };
+
+    fn from(refusal: Refusal) -> Self {
+        Unfit::Refused(refusal)
+    }
+}
+
 /// What the inputs of `plain` give.
 #[derive(Drop)]
 pub struct Accepted<'a> {
@@ -153,17 +164,12 @@ pub fn judge(alloc: Global, inputs: &Inputs) -> Result<Accepted<'_>, Unfit>
     ensures refused { IfErr result (λ u. (rules trace script : List ℕ) → IsWhole RULES_BYTES rules inputs.now.rules
         → IsWhole TRACE_BYTES trace inputs.now.trace → IsWhole SCRIPT_BYTES script inputs.now.script → IsUnfit u (judged rules trace script)) }
 {
-    let admitted = match admit(inputs) {
-        Ok(admitted) => admitted,
-        Err(refusal) => return Err(Unfit::Refused(refusal)),
-    };
-    match set_up(alloc, admitted.rules) {
-        Ok(setup) => Ok(Accepted {
-            setup,
-            trace: admitted.trace,
-        }),
-        Err(unfit) => Err(unfit),
-    }
+    let admitted = admit(inputs)?;
+    let setup = set_up(alloc, admitted.rules)?;
+    Ok(Accepted {
+        setup,
+        trace: admitted.trace,
+    })
 }
 
 /// The trace of `dump`, where it is accepted, or else why it is refused. It takes no memory.

@@ -4,6 +4,7 @@
 //! writes its outputs; the answer is the exit status, and for each status other than 0 a line goes to standard error.
 //! `specs/Commands.antt` says for all commands what each status means and what it leaves; `specs/Plain.antt` and
 //! `specs/DumpCommand.antt` say what the two commands judge and write.
+//! `specs/Laws.antt` says what holds of the records of every trace.
 #![tactic(auto)]
 
 ghost use Rattle.std.specs.Prelude.{◌≡◌, ◌||◌, true};
