@@ -336,8 +336,10 @@ fn refused_inputs_are_judged_in_order(rt: HostRuntime) -> Result<(), Fail> {
 fn a_refused_trace_is_named(rt: HostRuntime) -> Result<(), Fail> {
     let alloc = rt.alloc();
     let one = capture_of(alloc, 0, &SYN)?;
+    let mut cut = one.clone()?;
+    cut.pop();
     let rows = [
-        (one[..63].to_vec(alloc)?, "record cut at 24"),
+        (cut, "record cut at 24"),
         (HEADER[..23].to_vec(alloc)?, "header cut at 23"),
         (changed(alloc, &HEADER, &[(0, 0xd5)])?, "magic d5c3b2a1"),
         (changed(alloc, &HEADER, &[(6, 5)])?, "version 2.5"),
@@ -373,7 +375,9 @@ fn a_write_fault_leaves_the_beginning_of_the_outputs(rt: HostRuntime) -> Result<
 #[test]
 fn inputs_above_their_limits_are_refused(rt: HostRuntime) -> Result<(), Fail> {
     let alloc = rt.alloc();
-    let blank = vec![in alloc; b' '; 1_048_577]?;
+    let blank = vec![in alloc; b' '; 1_048_576]?;
+    let mut longer = blank.clone()?;
+    longer.push(b' ')?;
     let mut most = HEADER.to_vec(alloc)?;
     most.resize(24 + 16 * 262_144, 0)?;
     let mut more = most.clone()?;
@@ -384,8 +388,8 @@ fn inputs_above_their_limits_are_refused(rt: HostRuntime) -> Result<(), Fail> {
         (DUMP, &[], &most, "0 "),
         (DUMP, &[], &more, "8 limit: trace records 262145\n"),
         (DUMP, &[], &large, "8 limit: trace bytes 67108865\n"),
-        (PLAIN, &blank, &more, "8 limit: rules bytes 1048577\n"),
-        (PLAIN, &blank[1..], &HEADER, "10 not built: script\n"),
+        (PLAIN, &longer, &more, "8 limit: rules bytes 1048577\n"),
+        (PLAIN, &blank, &HEADER, "10 not built: script\n"),
     ];
     for (words, rules, trace, end) in rows {
         let mut shelf = shelf_of(alloc, rules, trace, "give 0 0\n", &[])?;
