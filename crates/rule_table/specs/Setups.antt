@@ -1,5 +1,5 @@
 -- The setup of a balancer, as contracts see it, and what holds of every one.
-use Rattle.std.specs.Prelude.{◌≡◌, ◌≢◌, ℕ, ◌≤◌, ◌<◌, Bool, ◌||◌, ◌==◌, All, AllPairs, IsTrue, IfSome, List, length}
+use Rattle.std.specs.Prelude.{◌≡◌, ◌≢◌, ℕ, ◌≤◌, ◌<◌, Bool, ◌||◌, ◌==◌, All, AllPairs, IsTrue, IfSome, List, length, slice_get, unwrap_or}
 use Rattle.weighted_pick.specs.Pick.{total_weight}
 use Rattle.rule_table.specs.declared.types.Server.{Server}
 use Rattle.rule_table.specs.declared.types.Service.{Service}
@@ -58,3 +58,7 @@ pub record IsSetup (setup : SetupView) : Type 0 where
   pub apart : AllPairs (λ s t. s ≢ t) setup.servers
   pub elsewhere : All (λ s. s.address ≢ setup.service.address) setup.servers
   pub rules : All (IsRule (length setup.servers)) setup.rules
+
+-- the server with that index; of an index that no server has, the one of zeros
+abbrev pub server_of : SetupView → ℕ → Server
+server_of setup index = unwrap_or (slice_get setup.servers index) (record { address = 0; port = 0 })

@@ -1,0 +1,6 @@
+/// Laws
+pub fn to_client_numbers() {}
+
+pub fn to_server_numbers() {}
+
+pub fn translations() {}
