@@ -1,0 +1,4 @@
+/// Laws
+pub fn reset_numbers() {}
+
+pub fn turned_numbers() {}

@@ -1,0 +1,80 @@
+-- How the balancer opens a flow's connection to its server (RFC 9293, 3.5) with the client's own numbers: it sends the
+-- client's SYN, and once the server has answered it the acknowledgment and the bytes that the client has sent so far.
+use Rattle.std.specs.Prelude.{◌≡◌, ℕ, ◌+◌, ◌*◌, ◌==◌, if◌then◌else◌, min, max, List, [], ◌∷◌, map, length, Option, Some, None}
+use Rattle.std.specs.List.{range_with_len}
+use Rattle.std.specs.Fork.{slice_chunk}
+use Rattle.std.specs.Int.{div_ceil}
+use Rattle.seq_space.specs.Positions.{number_of}
+use Rattle.flow_record.specs.declared.record.Record.{Record}
+use Rattle.flow_record.specs.Records.{syn_number, syn_mss, syn_window, open_server, open_port, open_number}
+use Rattle.tcp_segment.specs.OptionArea.{no_options, mss_only}
+use Rattle.tcp_segment.specs.declared.segment.Segment.{Segment}
+use Rattle.rule_table.specs.Setups.{SetupView, server_of}
+
+-- the client's SYN, sent to the server from this port of the service's address
+unfoldable pub server_syn_segment : SetupView → Record → ℕ → ℕ → Segment
+server_syn_segment setup syn server port = record {
+  source = setup.service.address;
+  target = (server_of setup server).address;
+  head = record {
+    source_port = port;
+    target_port = (server_of setup server).port;
+    seq = record { 0 = syn_number syn };
+    ack = record { 0 = 0 };
+    flags = 0x02;
+    window = syn_window syn;
+    urgent = 0;
+    options = mss_only (min 1460 (syn_mss syn));
+  };
+  body = [];
+}
+
+-- the acknowledgment of the server's SYN, behind the client's
+unfoldable pub opening_ack : SetupView → Record → Record → Segment
+opening_ack setup syn opened = record {
+  source = setup.service.address;
+  target = (server_of setup (open_server opened)).address;
+  head = record {
+    source_port = open_port opened;
+    target_port = (server_of setup (open_server opened)).port;
+    seq = record { 0 = number_of (syn_number syn) 1 };
+    ack = record { 0 = number_of (open_number opened) 1 };
+    flags = 0x10;
+    window = syn_window syn;
+    urgent = 0;
+    options = no_options;
+  };
+  body = [];
+}
+
+-- how many bytes a piece has: as many as the server takes (RFC 9293, 3.7.1), but from 64 to 1460
+abbrev pub piece_size : Option ℕ → ℕ
+piece_size None = 536
+piece_size (Some mss) = min 1460 (max 64 mss)
+
+-- how many pieces of this size are sent of so many bytes: ten at most
+abbrev pub piece_count : ℕ → ℕ → ℕ
+piece_count size n = min 10 (div_ceil n size)
+
+-- Piece i of the bytes that are held, of which so many are sent: the acknowledgment again, with the piece as its data and
+-- the number of its place; the last piece has PSH.
+unfoldable pub piece_segment : Segment → ℕ → List ℕ → ℕ → ℕ → Segment
+piece_segment ack size held count i = record ack {
+  head = record ack.head {
+    seq = record { 0 = number_of ack.head.seq.0 (i * size) };
+    flags = if i + 1 == count then 0x18 else 0x10;
+  };
+  body = slice_chunk held size i;
+}
+
+-- the pieces in their order
+abbrev pub opening_pieces : Segment → ℕ → List ℕ → List Segment
+opening_pieces ack size held =
+    let count = piece_count size (length held) in
+    map (piece_segment ack size held count) (range_with_len 0 count)
+
+-- what a server's SYN-ACK that gives this maximum segment size, or none, is answered with
+unfoldable pub opening_segments : SetupView → Record → Record → Option ℕ → List ℕ → List Segment
+opening_segments setup syn opened mss held =
+    let ack = opening_ack setup syn opened in
+    ack ∷ opening_pieces ack (piece_size mss) held
