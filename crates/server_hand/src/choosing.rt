@@ -11,7 +11,7 @@ use weighted_pick::pick;
 /// The choice of a server for the request whose head stands in front of what is held: the server that the draw picks of
 /// the first rule that the head matches. None exactly where it matches none. The head is one that was read from `held`.
 /// It takes no memory.
-#[tactic(auto, unfolding(crate::specs::Choosing::choice_of))]
+#[tactic(auto, unfolding(crate::specs::Choosing::choice_of), using(rule_table::proofs::MatchLemmas::matched_is_rule))]
 pub fn choose(setup: &Setup, held: &[u8], head: &HttpHead, draw: u64) -> Option<Record>
     requires { IsHeadOf held.now head.now }
     ensures { result ≡ choice_of setup.now held.now draw }

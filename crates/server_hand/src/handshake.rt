@@ -152,7 +152,8 @@ fn piece_of(
     count: usize,
     i: usize,
 ) -> Result<Segment, AllocError>
-    requires { i * size < length held.now }
+    requires sent { i < count }
+    requires within { i * size < length held.now }
     ensures { IfOk result (λ s. s ≡ piece_segment acknowledgment.now size held.now count i) }
 {
     let rest = &held[i * size..];
