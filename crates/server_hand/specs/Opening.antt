@@ -1,7 +1,7 @@
 -- How the balancer opens a flow's connection to its server (RFC 9293, 3.5) with the client's own numbers: it sends the
 -- client's SYN, and once the server has answered it the acknowledgment and the bytes that the client has sent so far.
-use Rattle.std.specs.Prelude.{◌≡◌, ℕ, ◌+◌, ◌*◌, ◌==◌, if◌then◌else◌, min, max, List, [], ◌∷◌, map, length, Option, Some, None}
-use Rattle.std.specs.List.{range_with_len}
+use Rattle.std.specs.Prelude.{◌≡◌, ◌≤◌, ◌<◌, ℕ, ◌+◌, ◌-◌, ◌*◌, ◌==◌, if◌then◌else◌, min, max, List, [], ◌∷◌, map, length, take, drop, slice_get, Option, Some, None, IfSome}
+use Rattle.std.specs.List.{range_with_len, flat_map}
 use Rattle.std.specs.Fork.{slice_chunk}
 use Rattle.std.specs.Int.{div_ceil}
 use Rattle.seq_space.specs.Positions.{number_of}
@@ -78,3 +78,56 @@ unfoldable pub opening_segments : SetupView → Record → Record → Option ℕ
 opening_segments setup syn opened mss held =
     let ack = opening_ack setup syn opened in
     ack ∷ opening_pieces ack (piece_size mss) held
+
+-- ---- what stands in these segments
+
+-- The client's SYN to this server from this port: it has the client's number, its flag is SYN, and it has no data.
+pub record OpensTo (setup : SetupView) (syn : Record) (server port : ℕ) (s : Segment) : Type 0 where
+  pub source : s.source ≡ setup.service.address
+  pub source_port : s.head.source_port ≡ port
+  pub target : s.target ≡ (server_of setup server).address
+  pub target_port : s.head.target_port ≡ (server_of setup server).port
+  pub seq : s.head.seq.0 ≡ syn_number syn
+  pub flags : s.head.flags ≡ 0x02
+  pub body : s.body ≡ []
+
+abbrev pub ServerSynNumbers : Type 0
+ServerSynNumbers =
+    (setup : SetupView) (syn : Record) (server port : ℕ) → OpensTo setup syn server port (server_syn_segment setup syn server port)
+
+-- The segment goes to the server that was opened to, stands at this position of the client's stream, and acknowledges
+-- position 1 of the server's.
+pub record StandsAt (setup : SetupView) (syn opened : Record) (position : ℕ) (s : Segment) : Type 0 where
+  pub source : s.source ≡ setup.service.address
+  pub source_port : s.head.source_port ≡ open_port opened
+  pub target : s.target ≡ (server_of setup (open_server opened)).address
+  pub target_port : s.head.target_port ≡ (server_of setup (open_server opened)).port
+  pub seq : s.head.seq.0 ≡ number_of (syn_number syn) position
+  pub ack : s.head.ack.0 ≡ number_of (open_number opened) 1
+
+-- The acknowledgment alone.
+pub record IsOpeningAck (setup : SetupView) (syn opened : Record) (s : Segment) : Type 0 where
+  pub stands : StandsAt setup syn opened 1 s
+  pub flags : s.head.flags ≡ 0x10
+  pub body : s.body ≡ []
+
+-- Piece i of so many: a part of what is held that is not empty and has at most `size` bytes.
+pub record IsPiece (setup : SetupView) (syn opened : Record) (size : ℕ) (held : List ℕ) (count i : ℕ) (s : Segment) : Type 0 where
+  pub stands : StandsAt setup syn opened (1 + i * size) s
+  pub flags : s.head.flags ≡ (if i + 1 == count then 0x18 else 0x10)
+  pub part : s.body ≡ take (length s.body) (drop (i * size) held)
+  pub some : 0 < length s.body
+  pub few : length s.body ≤ size
+  pub within : i * size + length s.body ≤ length held
+
+-- The acknowledgment and then the pieces: ten at most, and their data is that of the bytes that are held, in order.
+pub record AnswersServer (setup : SetupView) (syn opened : Record) (size : ℕ) (held : List ℕ) (outs : List Segment) : Type 0 where
+  pub first : IfSome (slice_get outs 0) (IsOpeningAck setup syn opened)
+  pub pieces : (i : ℕ) (s : Segment) → slice_get outs (i + 1) ≡ Some s → IsPiece setup syn opened size held (length outs - 1) i s
+  pub few : (1 ≤ length outs) × (length outs ≤ 11)
+  pub whole : flat_map (λ s. s.body) outs ≡ take (10 * size) held
+
+abbrev pub OpeningNumbers : Type 0
+OpeningNumbers =
+    (setup : SetupView) (syn opened : Record) (mss : Option ℕ) (held : List ℕ)
+    → AnswersServer setup syn opened (piece_size mss) held (opening_segments setup syn opened mss held)

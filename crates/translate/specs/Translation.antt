@@ -1,11 +1,11 @@
 -- How segments are passed on between the two connections of a flow. The client's stream has the same numbers on both;
 -- the server's has its own on the server's side, and those that the balancer forged on the client's.
-use Rattle.std.specs.Prelude.{◌≡◌, ℕ, ◌%◌, ◌^◌, if◌then◌else◌, List}
+use Rattle.std.specs.Prelude.{◌≡◌, ◌<◌, ℕ, ◌%◌, ◌^◌, true, false, if◌then◌else◌}
 use Rattle.seq_space.specs.Positions.{number_of, difference}
 use Rattle.flow_id.specs.declared.key.Flow.{Flow}
 use Rattle.flow_record.specs.declared.record.Record.{Record}
 use Rattle.flow_record.specs.Records.{open_server, open_port, open_number}
-use Rattle.tcp_segment.specs.Flags.{has_ack}
+use Rattle.tcp_segment.specs.Flags.{has_fin, has_syn, has_rst, has_psh, has_ack, has_urg}
 use Rattle.tcp_segment.specs.OptionArea.{no_options}
 use Rattle.tcp_segment.specs.declared.segment.Segment.{Segment}
 use Rattle.rule_table.specs.Setups.{SetupView, server_of}
@@ -53,3 +53,70 @@ to_client_segment setup seg forged opened flow = record {
   };
   body = seg.body;
 }
+
+-- ---- what stands in these segments
+
+-- The other segment's flags but for CWR and ECE, which are clear.
+pub record KeepsFlags (was is : ℕ) : Type 0 where
+  pub fin : has_fin is ≡ has_fin was
+  pub syn : has_syn is ≡ has_syn was
+  pub rst : has_rst is ≡ has_rst was
+  pub psh : has_psh is ≡ has_psh was
+  pub ack : has_ack is ≡ has_ack was
+  pub urg : has_urg is ≡ has_urg was
+  pub clear : is < 64
+
+-- The segment goes from the port that the flow owns to the server that was opened to, and is the client's, but for what
+-- it acknowledges.
+pub record GoesToServer (setup : SetupView) (seg : Segment) (forged : ℕ) (opened : Record) (s : Segment) : Type 0 where
+  pub source : s.source ≡ setup.service.address
+  pub source_port : s.head.source_port ≡ open_port opened
+  pub target : s.target ≡ (server_of setup (open_server opened)).address
+  pub target_port : s.head.target_port ≡ (server_of setup (open_server opened)).port
+  pub seq : s.head.seq.0 ≡ seg.head.seq.0
+  pub ack : has_ack seg.head.flags ≡ true → s.head.ack.0 ≡ moved forged (open_number opened) seg.head.ack.0
+  pub no_ack : has_ack seg.head.flags ≡ false → s.head.ack.0 ≡ 0
+  pub flags : KeepsFlags seg.head.flags s.head.flags
+  pub body : s.body ≡ seg.body
+
+-- The segment goes from the service to the client, and is the server's, but for its sequence number.
+pub record GoesToClient (setup : SetupView) (seg : Segment) (forged : ℕ) (opened : Record) (flow : Flow) (s : Segment) : Type 0 where
+  pub source : s.source ≡ setup.service.address
+  pub source_port : s.head.source_port ≡ setup.service.port
+  pub target : s.target ≡ flow.address
+  pub target_port : s.head.target_port ≡ flow.port
+  pub seq : s.head.seq.0 ≡ moved (open_number opened) forged seg.head.seq.0
+  pub ack : has_ack seg.head.flags ≡ true → s.head.ack.0 ≡ seg.head.ack.0
+  pub no_ack : has_ack seg.head.flags ≡ false → s.head.ack.0 ≡ 0
+  pub flags : KeepsFlags seg.head.flags s.head.flags
+  pub body : s.body ≡ seg.body
+
+abbrev pub ToServerNumbers : Type 0
+ToServerNumbers =
+    (setup : SetupView) (seg : Segment) (forged : ℕ) (opened : Record)
+    → GoesToServer setup seg forged opened (to_server_segment setup seg forged opened)
+
+abbrev pub ToClientNumbers : Type 0
+ToClientNumbers =
+    (setup : SetupView) (seg : Segment) (forged : ℕ) (opened : Record) (flow : Flow)
+    → GoesToClient setup seg forged opened flow (to_client_segment setup seg forged opened flow)
+
+-- ---- positions
+
+-- a position keeps its place, counted from one first number and from the other
+abbrev pub KeepsPosition : Type 0
+KeepsPosition = (from to p : ℕ) → moved from to (number_of from p) ≡ number_of to p
+
+-- a client that acknowledges a position of the stream that the balancer forges acknowledges this position of the server's
+abbrev pub AcknowledgesSamePosition : Type 0
+AcknowledgesSamePosition =
+    (setup : SetupView) (seg : Segment) (forged : ℕ) (opened : Record) (p : ℕ) → has_ack seg.head.flags ≡ true
+    → seg.head.ack.0 ≡ number_of forged p
+    → (to_server_segment setup seg forged opened).head.ack.0 ≡ number_of (open_number opened) p
+
+-- a server's segment at a position of its stream stands at this position of the one that the balancer forges
+abbrev pub StandsAtSamePosition : Type 0
+StandsAtSamePosition =
+    (setup : SetupView) (seg : Segment) (forged : ℕ) (opened : Record) (flow : Flow) (p : ℕ)
+    → seg.head.seq.0 ≡ number_of (open_number opened) p
+    → (to_client_segment setup seg forged opened flow).head.seq.0 ≡ number_of forged p
