@@ -1,6 +1,6 @@
 -- The client's side of a handshake (RFC 9293, 3.5): what is kept of its SYN, and how the balancer answers it in place of
 -- a server.
-use Rattle.std.specs.Prelude.{◌≡◌, ℕ, List, [], unwrap_or}
+use Rattle.std.specs.Prelude.{◌≡◌, ℕ, [], unwrap_or}
 use Rattle.seq_space.specs.Positions.{number_of}
 use Rattle.flow_id.specs.declared.key.Flow.{Flow}
 use Rattle.flow_id.specs.Hashes.{marked}

@@ -36,12 +36,12 @@ pub fn syn_record(head: &Head) -> Record
 /// that the flow's hash gives and acknowledges the SYN; it offers a window of 14600 and segments of 1460 bytes. It takes
 /// no memory.
 #[tactic(auto, unfolding(crate::specs::SynAck::syn_ack_segment))]
-pub fn syn_ack(alloc: Global, setup: &Setup, flow: &Flow, record: &Record) -> Segment
-    requires { IsTrue (is_syn «record».now) }
-    ensures { result ≡ syn_ack_segment setup.now flow.now «record».now }
+pub fn syn_ack(alloc: Global, setup: &Setup, flow: &Flow, item: &Record) -> Segment
+    requires { IsTrue (is_syn item.now) }
+    ensures { result ≡ syn_ack_segment setup.now flow.now item.now }
 {
     let service = setup.service();
-    let Record::Syn { number: first, .. } = *record else {
+    let Record::Syn { number: first, .. } = *item else {
         unreachable!()
     };
     Segment {

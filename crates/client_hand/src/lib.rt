@@ -5,3 +5,6 @@
 mod handshake;
 
 pub use handshake::{syn_ack, syn_ack_numbers, syn_record};
+
+#[cfg(test)]
+mod tests;

@@ -6,3 +6,6 @@ mod laws;
 
 pub use closing::{fin_record, reset_for, turned};
 pub use laws::{reset_numbers, turned_numbers};
+
+#[cfg(test)]
+mod tests;

@@ -1,12 +1,10 @@
 -- What is chosen is admitted.
-use Rattle.std.proofs.Common.{◌≡◌, ℕ, ◌<◌, ◌∙◌, Bool, true, ◌&&◌, eqb, ltb, All, List, [], length, get_or, unwrap_or, subst, ap, sym, refl, Option, Some, None, slice_get, is_some, option_map}
+use Rattle.std.proofs.Common.{◌≡◌, ℕ, ◌<◌, ◌∙◌, true, ◌&&◌, eqb, ltb, All, List, [], length, get_or, unwrap_or, subst, ap, sym, refl, Option, Some, None, slice_get, is_some, option_map}
 use Rattle.std.proofs.lemmas.Bool.{eqb-true, and_parts}
 use Rattle.std.proofs.lemmas.Option.{slice_get_within, slice_get-get_or, get_or_from_slice_get}
 use Rattle.std.proofs.lemmas.List.Folds.{Any-from_list_any}
 use Rattle.weighted_pick.specs.Pick.{picked, total_weight}
 use Rattle.weighted_pick.proofs.PickLemmas.{picked_has_weight}
-use Rattle.flow_record.specs.declared.record.Record.{Record}
-use Rattle.flow_record.specs.Records.{choice_server}
 use Rattle.rule_table.specs.declared.types.Rule.{Rule}
 use Rattle.rule_table.specs.Setups.{SetupView, IsSetup, IsRule}
 use Rattle.rule_table.specs.Matching.{matched, admits}

@@ -1,6 +1,6 @@
 -- What stands in the segments by which a connection to a server is opened.
-use Rattle.std.proofs.Common.{◌≡◌, ◌∙◌, ℕ, zero, suc, ◌<◌, ◌≤◌, ◌+◌, ◌-◌, ◌*◌, ◌%◌, min, List, [], ◌∷◌, ◌++◌, map, length, take, drop, get_or, slice_get, Option, Some, None, refl, sym, ap, subst, arith, inl, inr}
-use Rattle.std.specs.List.{range_with_len, flat_map}
+use Rattle.std.proofs.Common.{◌≡◌, ◌∙◌, ℕ, zero, suc, ◌<◌, ◌≤◌, ◌+◌, ◌-◌, ◌*◌, min, List, [], ◌∷◌, ◌++◌, length, take, drop, slice_get, Option, Some, None, refl, sym, ap, subst, arith, inl, inr}
+use Rattle.std.specs.List.{flat_map}
 use Rattle.std.specs.Int.{div_ceil}
 use Rattle.std.proofs.Math.Numerals.{add-one, suc-eq-add-one}
 use Rattle.std.proofs.Math.Nat.{mul-le-mul_right}
@@ -15,7 +15,7 @@ use Rattle.flow_record.specs.declared.record.Record.{Record}
 use Rattle.flow_record.specs.Records.{syn_number}
 use Rattle.tcp_segment.specs.declared.segment.Segment.{Segment}
 use Rattle.rule_table.specs.Setups.{SetupView}
-use Rattle.server_hand.specs.Opening.{opening_ack, piece_size, piece_count, piece_segment, opening_pieces, opening_segments, StandsAt, IsOpeningAck, IsPiece, AnswersServer, OpeningNumbers}
+use Rattle.server_hand.specs.Opening.{opening_ack, piece_size, piece_count, piece_segment, opening_pieces, opening_segments, IsOpeningAck, IsPiece, AnswersServer, OpeningNumbers}
 use Rattle.server_hand.proofs.Pieces.{piece_begins_within, sent_before, sent_before_next}
 
 -- a piece has at least one byte

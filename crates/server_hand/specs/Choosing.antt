@@ -1,5 +1,5 @@
 -- Which server a flow is given to: one of those of the first rule that its request's head matches, by the draw.
-use Rattle.std.specs.Prelude.{◌≡◌, ◌<◌, ℕ, true, List, [], length, Option, Some, None, is_some, option_map, slice_get, unwrap_or}
+use Rattle.std.specs.Prelude.{◌≡◌, ◌<◌, ℕ, true, List, [], length, Option, Some, is_some, option_map, slice_get, unwrap_or}
 use Rattle.weighted_pick.specs.Pick.{picked}
 use Rattle.flow_record.specs.declared.record.Record.{Record}
 use Rattle.flow_record.specs.declared.record.Record.TheVariants.{Choice}

@@ -94,7 +94,7 @@ fn size_of_pieces(mss: Option<u16>) -> usize
 {
     match mss {
         None => DEFAULT_PIECE as usize,
-        Some(mss) => mss.max(SMALLEST_PIECE).min(LARGEST_PIECE) as usize,
+        Some(mss) => mss.clamp(SMALLEST_PIECE, LARGEST_PIECE) as usize,
     }
 }
 

@@ -9,3 +9,6 @@ mod laws;
 pub use choosing::choose;
 pub use handshake::{opening, server_syn};
 pub use laws::{chosen_is_admitted, opening_numbers, server_syn_numbers};
+
+#[cfg(test)]
+mod tests;

@@ -1,5 +1,5 @@
 -- What stands in a segment that is passed on.
-use Rattle.std.proofs.Common.{◌≡◌, ◌∙◌, ℕ, ◌+◌, ◌/◌, ◌%◌, ◌<◌, ◌^◌, Bool, eqb, refl, if◌then◌else◌, sym, ap, arith}
+use Rattle.std.proofs.Common.{◌∙◌, ℕ, Bool, eqb, refl, if◌then◌else◌, ap, arith}
 use Rattle.flow_record.specs.Records.{open_number}
 use Rattle.translate.specs.Translation.{kept_flags, moved, to_server_segment, to_client_segment, KeepsFlags, ToServerNumbers, ToClientNumbers, KeepsPosition, AcknowledgesSamePosition, StandsAtSamePosition}
 

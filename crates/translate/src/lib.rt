@@ -8,3 +8,6 @@ mod passing;
 
 pub use laws::{to_client_numbers, to_server_numbers, translations};
 pub use passing::{to_client, to_server};
+
+#[cfg(test)]
+mod tests;

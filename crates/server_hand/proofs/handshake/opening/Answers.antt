@@ -1,6 +1,6 @@
-use Rattle.std.proofs.Common.{arith, ◌≡◌, ◌≤◌, length}
+use Rattle.std.proofs.Common.{arith, length}
 use Rattle.std.proofs.lemmas.Grind.{common_steps}
-use Rattle.server_hand.specs.Opening.{opening_ack, piece_segment}
+use Rattle.server_hand.specs.Opening.{opening_ack}
 use Rattle.server_hand.proofs.Pieces.{piece_begins_within, sent_before_next}
 use Rattle.server_hand.proofs.handshake.opening.Goals as goal
 
