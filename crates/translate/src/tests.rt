@@ -56,7 +56,9 @@ fn setup(alloc: Global) -> Result<Setup, AllocError>
 }
 
 /// A segment of the client to the service.
-fn from_client(alloc: Global, ack: u32, flags: u8) -> Segment {
+fn from_client(alloc: Global, ack: u32, flags: u8) -> Segment
+    ensures { length result.body ≡ 0 }
+{
     Segment {
         source: CLIENT.address,
         target: SERVICE.address,
