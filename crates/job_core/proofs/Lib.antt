@@ -1,0 +1,4 @@
+mod Candidates
+mod Extended
+mod Knowing
+mod Lines

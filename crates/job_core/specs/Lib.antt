@@ -1,0 +1,6 @@
+pub mod Aims
+pub mod Held
+pub mod Jobs
+pub mod Moves
+pub mod Phases
+pub mod Table
