@@ -1,0 +1,15 @@
+pub mod Asks
+pub mod Begun
+pub mod Causes
+pub mod Chains
+pub mod Counts
+pub mod Fits
+pub mod Histories
+pub mod Late
+pub mod Origins
+pub mod Reached
+pub mod Sets
+pub mod Shown
+pub mod Steps
+pub mod Supports
+pub mod Works

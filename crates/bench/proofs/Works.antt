@@ -1,0 +1,97 @@
+-- A step of a work: what may answer its job, and that a step that was refused is taken back.
+use Rattle.std.proofs.Common.{◌≡◌, ℕ, zero, suc, ◌<◌, Bool, true, false, ◌&&◌, Option, Some, None, List, [], ◌∷◌, ◌++◌, length, get_or, refl, sym, ◌∙◌, ap, subst}
+use Rattle.std.specs.Prelude.{not, slice_get}
+use Rattle.std.proofs.lemmas.Option.{none-some, same_Some}
+use Rattle.flow_id.specs.declared.key.Key.{Key}
+use Rattle.flow_record.specs.Records.{asked_key, FitsItsKey}
+use Rattle.flow_record.specs.declared.record.Ask.{Ask}
+use Rattle.flow_record.specs.declared.record.Ask.TheVariants.{Get, Add}
+use Rattle.job_core.specs.Jobs.{MayAnswer, is_get, move_after}
+use Rattle.job_core.specs.declared.moves.Move.{Move}
+use Rattle.job_core.specs.declared.moves.Next.TheVariants as next
+use Rattle.job_core.specs.declared.moves.Answer.{Answer}
+use Rattle.replica_cell.specs.Cells.{Replica, CellView, has_key}
+use Rattle.replica_cell.specs.Walks.{IsGet, EndsAbsent, cell_at, changed, walk_after, cells_after, standing, replicas, stores, stores_in}
+use Rattle.replica_cell.specs.declared.walk.Stepped.{Stepped}
+use Rattle.replica_cell.specs.declared.walk.Stepped.TheVariants.{Going, Decided, Absent, Down}
+use Rattle.replica_cell.specs.declared.walk.Walk.{Walk}
+use Rattle.replica_cell.proofs.Origins.{after_from}
+use Rattle.replica_cell.proofs.Orders.{later_length}
+use Rattle.replica_cell.proofs.Steps.{decided_carried, same_ask, step_later}
+use Rattle.replica_cell.proofs.Undoes.{stores-has}
+use Rattle.replica_cell.proofs.Views.{get-replicas}
+use Rattle.rule_table.specs.Setups.{SetupView, IsSetup}
+use Rattle.bench.specs.Bench.{answer_of}
+use Rattle.bench.specs.Desks.{CellsKnown, WalkKnown, Stepped as IsStepped}
+use Rattle.bench.specs.declared.desk.Work.{Work}
+use Rattle.bench.proofs.Asks.{asked_is}
+use Rattle.bench.proofs.Fits.{asked_fit}
+use Rattle.bench.specs.JobLaws.{IsRecordOf}
+
+-- ---- what may answer
+is_get_is : (ask : Ask) → IsGet ask → is_get ask ≡ true
+is_get_is (Get k) get = refl
+is_get_is (Add k r) get = absurd get
+
+pub may_answer : (setup : SetupView) (cells : List Replica) (w : Walk) (count : ℕ) → CellsKnown setup cells → WalkKnown setup w
+    → (said : Stepped) → said ≡ standing count (walk_after w cells) → (said ≡ Absent → IsGet w.ask) → (got : Answer) → answer_of said ≡ Some got → MayAnswer setup w.ask got
+may_answer setup cells w count known walk Going says get got is = absurd (none-some got is)
+may_answer setup cells w count known walk (Decided r) says get got is =
+    let carries = decided_carried count (walk_after w cells) r (sym says) in
+    let record_is : IsRecordOf setup (asked_key (walk_after w cells).ask) r = after_from (IsRecordOf setup) cells w known walk r carries in
+    subst (MayAnswer setup w.ask) (same_Some _ _ is) (subst (λ ask. IsRecordOf setup (asked_key ask) r) (same_ask cells w) record_is)
+may_answer setup cells w count known walk Absent says get got is = subst (MayAnswer setup w.ask) (same_Some _ _ is) (is_get_is w.ask (get refl))
+may_answer setup cells w count known walk Down says get got is = subst (MayAnswer setup w.ask) (same_Some _ _ is) tt
+
+-- ---- whether a step stored
+pub length_replicas : (cells : List CellView) → length (replicas cells) ≡ length cells
+length_replicas [] = refl
+length_replicas (c ∷ cells) = ap suc (length_replicas cells)
+
+get-changed : (f : Replica → Replica) (cells : List Replica) (n : ℕ) (c : Replica) → slice_get cells n ≡ Some c → slice_get (changed n f cells) n ≡ Some (f c)
+get-changed f [] n c is = absurd (none-some c is)
+get-changed f (d ∷ cells) zero c is = ap (λ (x : Replica). Some (f x)) (same_Some _ _ is)
+get-changed f (d ∷ cells) (suc n) c is = get-changed f cells n c is
+
+-- it did where the cell lacked the key before and has it after
+module _ (w : Walk) (cells news : List CellView) (x y : CellView) (k : Key) (within : w.place < length cells) (are : replicas news ≡ cells_after w (replicas cells)) (key : k ≡ asked_key w.ask) where
+  abbrev c : Replica
+  c = (get_or cells w.place x).replica
+
+  before : slice_get (replicas cells) w.place ≡ Some c
+  before = get-replicas cells w.place x within
+
+  long : length news ≡ length cells
+  long = sym (length_replicas news) ∙ ap length are ∙ later_length (replicas cells) (cells_after w (replicas cells)) (step_later (replicas cells) w) ∙ length_replicas cells
+
+  abbrev d : Replica
+  d = (get_or news w.place y).replica
+
+  now : d ≡ cell_at w.carried w c
+  now = same_Some _ _ (sym (get-replicas news w.place y (subst (λ n. w.place < n) (sym long) within)) ∙ ap (λ (z : List Replica). slice_get z w.place) are ∙ get-changed (cell_at w.carried w) (replicas cells) w.place c before)
+
+  stored_is : stores w (replicas cells) ≡ (not (has_key c k) && has_key d k)
+  stored_is =
+      ap (stores_in w) before ∙ stores-has w.carried w c ∙ ap (λ (z : Replica). not (has_key c (asked_key w.ask)) && has_key z (asked_key w.ask)) (sym now)
+      ∙ ap (λ q. not (has_key c q) && has_key d q) (sym key)
+
+  pub stored_then : (had has : Bool) → had ≡ has_key c k → had ≡ false → has ≡ has_key d k → has ≡ stores w (replicas cells)
+  stored_then had has was lacked is = is ∙ sym (stored_is ∙ ap (λ b. not b && has_key d k) (sym was ∙ lacked))
+
+  pub stored_else : (had : Bool) → had ≡ has_key c k → had ≡ true → not had ≡ stores w (replicas cells)
+  stored_else had was held = ap not held ∙ sym (stored_is ∙ ap (λ b. not b && has_key d k) (sym was ∙ held))
+
+pub ends_get : (w : Walk) (o : Option Replica) → EndsAbsent w o → IsGet w.ask
+ends_get w None ends = absurd ends
+ends_get w (Some c) ends = ends.0
+
+-- ---- what a step leads to
+-- the ask that a work goes on to fits its key
+pub next_fits : (setup : SetupView) (cells : List Replica) (held : List ℕ) (old new : Work) (o : Option Answer) (m : Move) (ask : Ask) → IsSetup setup
+    → IsStepped setup cells held old o (Some m) new → m.next ≡ next.Ask ask → FitsItsKey ask
+next_fits setup cells held old new None m ask good stepped is = absurd (none-some m (sym stepped.0))
+next_fits setup cells held old new (Some a) m ask good stepped is =
+    let same : m ≡ move_after setup old.job a held = same_Some _ _ stepped.0 in
+    let asks : (move_after setup old.job a held).next ≡ next.Ask ask = sym (ap (λ (x : Move). x.next) same) ∙ is in
+    asked_fit setup old.job.instance old.job.segment held old.job.aim (old.job.answers ++ a ∷ []) ask good
+    (asked_is setup old.job.instance old.job.aim old.job.segment (old.job.answers ++ a ∷ []) held ask asks)

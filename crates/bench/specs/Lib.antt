@@ -1,0 +1,6 @@
+pub mod Bench
+pub mod Calls
+pub mod Desks
+pub mod Histories
+pub mod JobLaws
+pub mod Laws
