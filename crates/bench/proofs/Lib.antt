@@ -2,8 +2,11 @@ pub mod Asks
 pub mod Begun
 pub mod Causes
 pub mod Chains
+pub mod Connections
 pub mod Counts
 pub mod Fits
+pub mod Forwarding
+pub mod Handlings
 pub mod Histories
 pub mod Late
 pub mod Origins

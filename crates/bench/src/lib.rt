@@ -9,7 +9,7 @@ mod laws;
 
 pub use bench::{Bench, apply};
 pub use call::{Call, Reply};
-pub use laws::{job_laws, store_laws};
+pub use laws::{forwarding_laws, job_laws, store_laws};
 
 #[cfg(test)]
 mod tests;
