@@ -9,6 +9,7 @@ pub mod Forwarding
 pub mod Handlings
 pub mod Histories
 pub mod Late
+pub mod Once
 pub mod Origins
 pub mod Reached
 pub mod Sets
