@@ -3,11 +3,10 @@ use Rattle.std.proofs.Common.{◌≡◌, ℕ, List, [], ◌∷◌, sym, ◌∙�
 use Rattle.std.specs.Prelude.{Result, Ok, IfOk}
 use Rattle.pcap_file.specs.Frames.{capture_of}
 use Rattle.rule_table.specs.Setups.{SetupView}
-use Rattle.yoda_app.specs.Fold.{steps}
+use Rattle.yoda_app.specs.Fold.{run}
 use Rattle.yoda_app.specs.Outs.{outs_text}
 use Rattle.yoda_app.specs.Plain.{plain_texts}
 use Rattle.yoda_app.specs.Reports.{report_text}
-use Rattle.yoda_app.specs.Stores.{opening}
 use Rattle.yoda_app.specs.declared.refusal.Refusal.{Refusal}
 
 two : (a b c d : List ℕ) → a ≡ c → b ≡ d → ◌≡◌ {A = List (List ℕ)} (a ∷ b ∷ []) (c ∷ d ∷ [])
@@ -15,8 +14,8 @@ two a b c d e f = cc
 
 -- texts that were made with the setup that the judgement gives, of the trace that was judged
 pub texts_given : (r : Result SetupView Refusal) (u : SetupView) (bytes trace out report : List ℕ) → r ≡ Ok u → bytes ≡ trace
-    → out ≡ outs_text (capture_of bytes).frames (steps u (opening u) bytes (capture_of bytes).frames)
-    → report ≡ report_text (steps u (opening u) bytes (capture_of bytes).frames)
+    → out ≡ outs_text (capture_of bytes).frames (run u bytes (capture_of bytes).frames)
+    → report ≡ report_text (run u bytes (capture_of bytes).frames)
     → IfOk r (λ w. ◌≡◌ {A = List (List ℕ)} (out ∷ report ∷ []) (plain_texts w trace))
 texts_given r u bytes trace out report is same_bytes is_out is_report =
     let made : ◌≡◌ {A = List (List ℕ)} (out ∷ report ∷ []) (plain_texts u bytes) = two out report _ _ is_out is_report in

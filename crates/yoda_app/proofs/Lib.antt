@@ -1,5 +1,5 @@
+pub mod Done
 pub mod Filled
-pub mod FirstNumbers
 pub mod Given
 pub mod Judging
 pub mod Longer
@@ -8,6 +8,9 @@ pub mod Outputs
 pub mod Readings
 pub mod Rising
 pub mod Runs
-pub mod SameCells
+pub mod Shards
+pub mod ShortOuts
 pub mod Sizes
+pub mod Steps
 pub mod Stops
+pub mod Works

@@ -1,13 +1,13 @@
 -- The dump of a trace: a line for each frame.
-use Rattle.std.specs.Prelude.{ℕ, ◌+◌, ◌/◌, ◌%◌, Bool, ◌==◌, if◌then◌else◌, List, [], ◌∷◌, ◌++◌, Result, Ok, Err, codes}
+use Rattle.std.specs.Prelude.{ℕ, ◌+◌, ◌/◌, ◌%◌, Bool, ◌==◌, if◌then◌else◌, List, [], ◌∷◌, ◌++◌, length, Result, Ok, Err, codes}
 use Rattle.std.specs.Fmt.{decimal}
 use Rattle.common.specs.Text.{end_text}
 use Rattle.pcap_file.specs.declared.capture.Frame.{Frame}
 use Rattle.pcap_file.specs.Frames.{capture_of}
+use Rattle.job_core.specs.declared.verdict.Verdict.{Verdict}
+use Rattle.report_text.specs.Verdicts.{verdict_text}
+use Rattle.tcp_segment.specs.declared.segment.Segment.{Segment}
 use Rattle.yoda_app.specs.Incoming.{incoming}
-use Rattle.yoda_app.specs.Verdicts.{verdict_text}
-use Rattle.yoda_app.specs.declared.incoming.Incoming.{Incoming}
-use Rattle.yoda_app.specs.declared.verdict.Verdict.{Verdict}
 
 -- the letter of a flag, where it is set
 abbrev pub letter : Bool → List ℕ → List ℕ
@@ -22,22 +22,22 @@ flags_text flags =
     ++ letter (flags / 2 % 2 == 1) (codes "S") ++ letter (flags % 2 == 1) (codes "F"))
 
 -- NUMBER SOURCE > TARGET
-abbrev pub ends_text : ℕ → Incoming → List ℕ
-ends_text number i =
-    decimal number ++ codes " " ++ end_text i.source i.head.source_port ++ codes " > " ++ end_text i.target i.head.target_port ++ codes " "
+abbrev pub ends_text : ℕ → Segment → List ℕ
+ends_text number s =
+    decimal number ++ codes " " ++ end_text s.source s.head.source_port ++ codes " > " ++ end_text s.target s.head.target_port ++ codes " "
 
 -- SEQ ACK WINDOW LENGTH
-abbrev pub numbers_text : Incoming → List ℕ
-numbers_text i =
-    codes " " ++ decimal i.head.seq.0 ++ codes " " ++ decimal i.head.ack.0 ++ codes " " ++ decimal i.head.window ++ codes " " ++ decimal i.length ++ codes "\n"
+abbrev pub numbers_text : Segment → List ℕ
+numbers_text s =
+    codes " " ++ decimal s.head.seq.0 ++ codes " " ++ decimal s.head.ack.0 ++ codes " " ++ decimal s.head.window ++ codes " " ++ decimal (length s.body) ++ codes "\n"
 
 -- NUMBER SOURCE > TARGET FLAGS SEQ ACK WINDOW LENGTH
-abbrev pub segment_line : ℕ → Incoming → List ℕ
-segment_line number i = ends_text number i ++ flags_text i.head.flags ++ numbers_text i
+abbrev pub segment_line : ℕ → Segment → List ℕ
+segment_line number s = ends_text number s ++ flags_text s.head.flags ++ numbers_text s
 
 -- the line of a segment, or NUMBER VERDICT of a frame that holds none
-abbrev pub dump_line : ℕ → Result Incoming Verdict → List ℕ
-dump_line number (Ok i) = segment_line number i
+abbrev pub dump_line : ℕ → Result Segment Verdict → List ℕ
+dump_line number (Ok s) = segment_line number s
 dump_line number (Err verdict) = decimal number ++ codes " " ++ verdict_text verdict ++ codes "\n"
 
 -- the lines of these frames, whose numbers begin with n

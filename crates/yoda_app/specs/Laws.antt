@@ -1,36 +1,24 @@
--- What holds of every run of `plain`, in words that do not speak of stores.
-use Rattle.std.specs.Prelude.{◌≡◌, ℕ, true, ◌==◌, ◌&&◌, if◌then◌else◌, List, [], ◌∷◌, ◌++◌, length, slice_get, Option, None, Some, unwrap_or, Result, Ok, Err}
-use Rattle.std.specs.Option.{option_or}
-use Rattle.flow_id.specs.Keys.{same_flow}
-use Rattle.flow_id.specs.declared.key.Flow.{Flow}
+-- What holds of every run of `plain`.
+use Rattle.std.specs.Prelude.{◌≡◌, ℕ, ◌+◌, List, [], ◌∷◌}
+use Rattle.job_core.specs.declared.aim.Aim.{Aim}
 use Rattle.pcap_file.specs.declared.capture.Frame.{Frame}
 use Rattle.rule_table.specs.Setups.{SetupView, IsSetup}
-use Rattle.seq_space.specs.declared.Num.{Num}
-use Rattle.yoda_app.specs.Fold.{is_client_syn, client_flow, syn_ack, Step, steps}
+use Rattle.tcp_segment.specs.declared.segment.Segment.{Segment}
+use Rattle.yoda_app.specs.Fold.{Benches, opened, bench_at, handled}
+use Rattle.yoda_app.specs.Handling.{IsDone, handling}
 use Rattle.yoda_app.specs.Incoming.{incoming}
-use Rattle.yoda_app.specs.Stores.{opening}
-use Rattle.yoda_app.specs.declared.incoming.Incoming.{Incoming}
-use Rattle.yoda_app.specs.declared.verdict.Verdict.{Verdict}
-use Rattle.yoda_app.specs.declared.verdict.Verdict.TheVariants.{Answered, OtherNumber}
+use Rattle.yoda_app.specs.Prepared.{prepared}
+use Rattle.yoda_app.specs.declared.preparing.Prepared.TheVariants.{Work}
 
--- the number of a client's SYN of this flow, if that is what comes in
-abbrev pub number_here : SetupView → Flow → Result Incoming Verdict → Option Num
-number_here setup flow (Ok i) = if is_client_syn setup i && same_flow flow (client_flow setup i) then Some i.head.seq else None
-number_here setup flow (Err verdict) = None
+-- the benches after the records with these frames, whose numbers begin with n, without a script
+abbrev pub benches_after : SetupView → Benches → List ℕ → ℕ → List Frame → Benches
+benches_after setup benches trace n [] = benches
+benches_after setup benches trace n (frame ∷ frames) =
+    benches_after setup (handled setup benches n (prepared setup (incoming trace frame))).benches trace (n + 1) frames
 
--- the number of the flow's first client's SYN among these frames
-abbrev pub first_number : SetupView → List ℕ → Flow → List Frame → Option Num
-first_number setup trace flow [] = None
-first_number setup trace flow (frame ∷ frames) = option_or (number_here setup flow (incoming trace frame)) (first_number setup trace flow frames)
-
--- a flow's first number stands: each of its client's SYNs is answered exactly where it has that number, which is
--- acknowledged, and otherwise its verdict names that number; so no store is down
-abbrev pub FirstNumberStands : Type 0
-FirstNumberStands =
-    (setup : SetupView) (trace : List ℕ) (before after : List Frame) (frame : Frame) (i : Incoming) (step : Step)
-    → IsSetup setup → incoming trace frame ≡ Ok i → is_client_syn setup i ≡ true
-    → slice_get (steps setup (opening setup) trace (before ++ frame ∷ after)) (length before) ≡ Some step
-    → let flow = client_flow setup i in
-    let first = unwrap_or (first_number setup trace flow before) i.head.seq in
-    (step.line.verdict ≡ (if first.0 == i.head.seq.0 then Answered else OtherNumber first.0))
-    × (step.outs ≡ (if first.0 == i.head.seq.0 then syn_ack setup flow first ∷ [] else []))
+-- each handling of a run ends with its Done: the most steps suffice
+abbrev pub HandlingsEnd : Type 0
+HandlingsEnd =
+    (setup : SetupView) (trace : List ℕ) (before : List Frame) (frame : Frame) (a : Aim) (segment : Segment) (instance shard n : ℕ)
+    → IsSetup setup → prepared setup (incoming trace frame) ≡ Work a segment instance shard
+    → IsDone (handling (bench_at setup (benches_after setup (opened setup) trace 0 before) shard) instance n a segment).1

@@ -1,6 +1,8 @@
 -- The capture of what is sent: for each segment a record with the time of the record that it answers.
 use Rattle.std.specs.Prelude.{ℕ, ◌≤◌, List, [], ◌∷◌, ◌++◌, length}
-use Rattle.std.specs.List.{flat_map}
+use Rattle.std.specs.List.{AllByRecursion, flat_map}
+use Rattle.bench.specs.declared.call.Reply.{Reply}
+use Rattle.bench.specs.declared.call.Reply.TheVariants as reply
 use Rattle.pcap_file.specs.declared.capture.Frame.{Frame}
 use Rattle.pcap_file.specs.Written.{header_bytes, record_bytes}
 use Rattle.tcp_segment.specs.declared.segment.Segment.{Segment}
@@ -10,6 +12,13 @@ use Rattle.yoda_app.specs.Fold.{Step}
 -- the segment fits a packet
 abbrev pub IsShort : Segment → Type 0
 IsShort out = written_length out.head (length out.body) ≤ 65515
+
+-- each segment that a reply names fits a packet
+abbrev pub IsShortReply : Reply → Type 0
+IsShortReply (reply.Done verdict outs) = AllByRecursion IsShort outs
+IsShortReply reply.Going = Unit {0}
+IsShortReply reply.Idle = Unit {0}
+IsShortReply reply.Noted = Unit {0}
 
 -- the records of what is sent for a frame
 abbrev pub sent_for : Frame → List Segment → List ℕ

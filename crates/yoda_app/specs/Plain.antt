@@ -5,11 +5,10 @@ use Rattle.std.specs.Result.{result_err}
 use Rattle.pcap_file.specs.Frames.{capture_of}
 use Rattle.rule_table.specs.Setups.{SetupView}
 use Rattle.yoda_app.specs.Commands.{Command}
-use Rattle.yoda_app.specs.Fold.{steps}
+use Rattle.yoda_app.specs.Fold.{run}
 use Rattle.yoda_app.specs.Judgement.{judged}
 use Rattle.yoda_app.specs.Outs.{outs_text}
 use Rattle.yoda_app.specs.Reports.{report_text}
-use Rattle.yoda_app.specs.Stores.{opening}
 use Rattle.yoda_app.specs.Words.{word}
 use Rattle.yoda_app.specs.declared.words.PlainNames.{PlainNames}
 
@@ -17,7 +16,7 @@ use Rattle.yoda_app.specs.declared.words.PlainNames.{PlainNames}
 abbrev pub plain_texts : SetupView → List ℕ → List (List ℕ)
 plain_texts setup trace =
     let frames = (capture_of trace).frames in
-    let steps = steps setup (opening setup) trace frames in
+    let steps = run setup trace frames in
     outs_text frames steps ∷ report_text steps ∷ []
 
 -- the five names

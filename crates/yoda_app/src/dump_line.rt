@@ -1,11 +1,14 @@
 // One line of a dump.
-ghost use Rattle.std.specs.Prelude.{◌≡◌, ◌++◌, ◌==◌, OnOk};
+ghost use Rattle.std.specs.Prelude.{◌≡◌, ◌≤◌, ◌+◌, ◌++◌, ◌==◌, OnOk, length};
 ghost use Rattle.std.specs.String.{string_bytes};
 ghost use Rattle.yoda_app.specs.Dumps.{letter, flags_text, ends_text, numbers_text, segment_line, dump_line};
+ghost use Rattle.yoda_app.specs.Incoming.{incoming, segment_of};
 
 use crate::incoming::Incoming;
-use crate::verdict::Verdict;
+use crate::trace::incoming;
 use common::{Address, Endpoint};
+use pcap_file::Frame;
+use report_text::VerdictText;
 use std::alloc::AllocError;
 use std::fmt::Write;
 
@@ -33,8 +36,8 @@ fn add_flags(text: &mut String, flags: u8) -> Result<(), AllocError>
 }
 
 // Adds the frame's number, and from whom to whom it goes.
-fn add_ends(text: &mut String, number: u32, incoming: &Incoming) -> Result<(), AllocError>
-    ensures { OnOk result (string_bytes text.new ≡ string_bytes text.old ++ ends_text number incoming.now) }
+fn add_ends(text: &mut String, number: u32, incoming: &Incoming<'_>) -> Result<(), AllocError>
+    ensures { OnOk result (string_bytes text.new ≡ string_bytes text.old ++ ends_text number (segment_of incoming.now)) }
 {
     let source = Endpoint {
         address: Address(incoming.source),
@@ -48,32 +51,37 @@ fn add_ends(text: &mut String, number: u32, incoming: &Incoming) -> Result<(), A
 }
 
 // Adds the numbers of a segment.
-fn add_numbers(text: &mut String, incoming: &Incoming) -> Result<(), AllocError>
-    ensures { OnOk result (string_bytes text.new ≡ string_bytes text.old ++ numbers_text incoming.now) }
+fn add_numbers(text: &mut String, incoming: &Incoming<'_>) -> Result<(), AllocError>
+    ensures { OnOk result (string_bytes text.new ≡ string_bytes text.old ++ numbers_text (segment_of incoming.now)) }
 {
     let (seq, ack) = (incoming.head.seq.0, incoming.head.ack.0);
-    let (window, length) = (incoming.head.window, incoming.length);
+    let (window, length) = (incoming.head.window, incoming.body.len());
     write!(text, " {seq} {ack} {window} {length}\n")
 }
 
-fn add_segment(text: &mut String, number: u32, incoming: &Incoming) -> Result<(), AllocError>
-    ensures { OnOk result (string_bytes text.new ≡ string_bytes text.old ++ segment_line number incoming.now) }
+fn add_segment(text: &mut String, number: u32, incoming: &Incoming<'_>) -> Result<(), AllocError>
+    ensures { OnOk result (string_bytes text.new ≡ string_bytes text.old ++ segment_line number (segment_of incoming.now)) }
 {
     add_ends(text, number, incoming)?;
     add_flags(text, incoming.head.flags)?;
     add_numbers(text, incoming)
 }
 
-/// Adds the line of the frame with this number to a dump. The one error is want of memory.
+/// Adds the line of a frame of the trace, which has this number, to a dump. The one error is want of memory.
 pub fn add_line(
     text: &mut String,
     number: u32,
-    incoming: &Result<Incoming, Verdict>,
+    trace: &[u8],
+    frame: &Frame,
 ) -> Result<(), AllocError>
-    ensures { OnOk result (string_bytes text.new ≡ string_bytes text.old ++ dump_line number incoming.now) }
+    requires { frame.now.at + frame.now.kept ≤ length trace.now }
+    ensures { OnOk result (string_bytes text.new ≡ string_bytes text.old ++ dump_line number (incoming trace.now frame.now)) }
 {
-    match incoming {
-        Ok(incoming) => add_segment(text, number, incoming),
-        Err(verdict) => write!(text, "{number} {verdict}\n"),
+    match incoming(trace, frame) {
+        Ok(incoming) => add_segment(text, number, &incoming),
+        Err(verdict) => {
+            let verdict = VerdictText(verdict);
+            write!(text, "{number} {verdict}\n")
+        }
     }
 }

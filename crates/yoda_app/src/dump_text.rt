@@ -5,7 +5,7 @@ ghost use Rattle.pcap_file.specs.Frames.{capture_of, left_of};
 ghost use Rattle.yoda_app.specs.Dumps.{dump_lines, dump_text};
 
 use crate::dump_line::add_line;
-use crate::trace::{TRACE_BYTES, TRACE_RECORDS, incoming};
+use crate::trace::{TRACE_BYTES, TRACE_RECORDS};
 use pcap_file::Reader;
 use std::alloc::{AllocError, Global};
 
@@ -18,7 +18,7 @@ fn add_frames(text: &mut String, reader: &mut Reader, trace: &[u8]) -> Result<()
 {
     let mut number = 0;
     while let Ok(Some(frame)) = reader.next(trace) {
-        add_line(text, number, &incoming(trace, &frame))?;
+        add_line(text, number, trace, &frame)?;
         number += 1;
     }
     Ok(())

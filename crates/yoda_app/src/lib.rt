@@ -14,6 +14,7 @@ ghost use Rattle.yoda_app.specs.DumpCommand.{dump_command};
 ghost use Rattle.yoda_app.specs.Plain.{plain_command};
 ghost use Rattle.yoda_app.specs.Words.{texts, are_plain, are_dump};
 
+mod benches;
 mod dump;
 mod dump_line;
 mod dump_text;
@@ -24,13 +25,11 @@ mod inputs;
 mod judgement;
 mod laws;
 mod plain;
+mod preparing;
 mod reading;
 mod refusal;
-mod report;
-mod stores;
 mod texts;
 mod trace;
-mod verdict;
 mod words;
 mod writing;
 

@@ -1,6 +1,5 @@
 // The command `plain`.
 ghost use Rattle.std.specs.Prelude.{◌≡◌, ◌≢◌, ◌<◌, ℕ, List, [], ◌∷◌, IfOk, IfErr, OnOk, None};
-ghost use Rattle.std.specs.String.{string_bytes};
 ghost use Rattle.shelf.specs.Shelf.{SameContents, NoneFell, StaysSure};
 ghost use Rattle.yoda_app.specs.Commands.{change, held, AreTold, AllWritten};
 ghost use Rattle.yoda_app.specs.Ends.{IsStop, IsEnd, StopsAmong};
@@ -51,7 +50,7 @@ fn prepare<'a, H: Shelf>(
     ensures accepted { OnOk result (AreTold (H.content shelf.old) (plain_of names.now).inputs
         → (plain_of names.now).refusal (held (H.content shelf.old)) ≡ None) }
     ensures texts { IfOk result (λ t. AreTold (H.content shelf.old) (plain_of names.now).inputs
-        → (plain_of names.now).Gives (held (H.content shelf.old)) (t.out.items ∷ string_bytes t.report ∷ [])) }
+        → (plain_of names.now).Gives (held (H.content shelf.old)) (t.out.items ∷ t.report.items ∷ [])) }
     ensures stop { IfErr result (IsStop (plain_of names.now) (change H.content H.faults H.sure shelf.old shelf.new)) }
     ensures same { SameContents (H.content shelf.old) (H.content shelf.new) }
     ensures counts { NoneFell (H.faults shelf.old) (H.faults shelf.new) }
@@ -73,16 +72,16 @@ fn write_texts<'a, H: Shelf>(
     texts: &Texts,
 ) -> Result<(), Stop<'a>>
     requires { names.now.out.now ≢ names.now.report.now }
-    ensures all { OnOk result (AllWritten (plain_of names.now).outputs (texts.now.out.items ∷ string_bytes texts.now.report ∷ [])
+    ensures all { OnOk result (AllWritten (plain_of names.now).outputs (texts.now.out.items ∷ texts.now.report.items ∷ [])
         (H.content shelf.old) (H.content shelf.new)) }
     ensures stop { IfErr result (StopsAmong (change H.content H.faults H.sure shelf.old shelf.new) (plain_of names.now).outputs
-        (texts.now.out.items ∷ string_bytes texts.now.report ∷ [])) }
+        (texts.now.out.items ∷ texts.now.report.items ∷ [])) }
     ensures others { (n : List ℕ) → n ≢ names.now.out.now → n ≢ names.now.report.now → H.content shelf.new n ≡ H.content shelf.old n }
     ensures counts { NoneFell (H.faults shelf.old) (H.faults shelf.new) }
     ensures stays { StaysSure (H.sure shelf.old) (H.sure shelf.new) }
 {
     write_output(shelf, names.out, &texts.out)?;
-    write_output(shelf, names.report, texts.report.as_bytes())
+    write_output(shelf, names.report, &texts.report)
 }
 
 /// Reads the inputs, and writes what is sent for the trace's records and what became of them.

@@ -1,6 +1,8 @@
 use super::*;
+use seq_space::Num;
 use shelf::MemoryShelf;
 use std::test::Fail;
+use tcp_segment::{ACK, Bytes, FIN, Head, Options, PSH, RST, SYN as OPEN, Segment, write};
 
 /// Two servers. The shop's cart goes to the first, the testers go to the second, and the rest of the shop to both.
 const RULES: &str = r#"instances = 2
@@ -66,6 +68,41 @@ const ETHERNET: [u8; 130] = [
 const PLAIN: &str = "plain r.toml t.pcap s.txt out.pcap report.txt";
 
 const DUMP: &str = "dump t.pcap";
+
+/// The client's first number towards whom it speaks to, which the balancer forges, and the port from which the balancer
+/// speaks to a server for it. They come from another implementation of SHA-256.
+const FORGED: u32 = 1_623_089_032;
+
+const PORT: u16 = 17163;
+
+/// A request head in three pieces.
+const HEAD: &[u8] =
+    b"GET /cart/1 HTTP/1.1\r\nHost: Shop.Example:80\r\nCookie: id=9; beta=1\r\n\r\n";
+
+const PIECES: [&[u8]; 3] = [
+    b"GET /cart/1 HTTP/1.1",
+    b"\r\nHost: Shop.Example",
+    b":80\r\nCookie: id=9; beta=1\r\n\r\n",
+];
+
+/// Who sends a segment of a test.
+#[derive(Clone, Copy)]
+enum Who {
+    /// The client of the SYN, to the service.
+    Client,
+    /// The first server, to the balancer's port.
+    Server,
+}
+
+/// A segment of a test: who sends it, its flags, its number, what it acknowledges, and its data.
+type Sent<'a> = (Who, u8, u32, u32, &'a [u8]);
+
+/// A client's SYN, the acknowledgment of its answer with a request head, and the server's answer to the SYN for it.
+const OPENING: Sent<'static> = (Who::Client, OPEN, 1000, 0, &[]);
+
+const REQUEST: Sent<'static> = (Who::Client, PSH | ACK, 1001, FORGED + 1, HEAD);
+
+const ACCEPTING: Sent<'static> = (Who::Server, OPEN | ACK, 70000, 1001, &[]);
 
 /// Adds a record of second 1 to a capture. The original length is the kept one and `cut`.
 fn add_record(trace: &mut Vec<u8>, cut: u32, frame: &[u8]) -> Result<(), Fail> {
@@ -161,6 +198,56 @@ fn left_of(alloc: Global, words: &str, trace: &[u8], name: &str) -> Result<Vec<u
     Ok(shelf.bytes(name).unwrap_or(&[]).to_vec(alloc)?)
 }
 
+/// The packet of a segment. One with SYN gives a maximum segment size of 1460 bytes.
+fn packet_of(alloc: Global, sent: &Sent<'_>) -> Result<Vec<u8>, Fail> {
+    let (who, flags, seq, ack, body) = *sent;
+    if body.len() > 1460 {
+        return Err("too much data".into());
+    }
+    let (source, source_port, target_port) = match who {
+        Who::Client => (0xc000_0207, 40000, 80),
+        Who::Server => (0x0a00_0001, 8080, PORT),
+    };
+    let head = Head {
+        source_port,
+        target_port,
+        seq: Num(seq),
+        ack: Num(ack),
+        flags,
+        window: 64240,
+        urgent: 0,
+        options: Options {
+            mss: if flags & OPEN == 0 { None } else { Some(1460) },
+            ..Options::none()
+        },
+    };
+    let segment = Segment {
+        source,
+        target: 0xc633_640a,
+        head,
+        body: Bytes::new(body.to_vec(alloc)?),
+    };
+    let mut packet = Vec::new(alloc);
+    write(&segment, &mut packet)?;
+    Ok(packet)
+}
+
+/// A capture of these segments.
+fn trace_of(alloc: Global, segments: &[Sent<'_>]) -> Result<Vec<u8>, Fail> {
+    let mut trace = HEADER.to_vec(alloc)?;
+    for sent in segments {
+        add_record(&mut trace, 0, &packet_of(alloc, sent)?)?;
+    }
+    Ok(trace)
+}
+
+/// The report of a capture, and the dump of what is sent for it.
+fn outcome_of(alloc: Global, trace: &[u8]) -> Result<(Vec<u8>, Vec<u8>), Fail> {
+    let report = left_of(alloc, PLAIN, trace, "report.txt")?;
+    let out = left_of(alloc, PLAIN, trace, "out.pcap")?;
+    Ok((report, left_of(alloc, DUMP, &out, "-")?))
+}
+
 #[test]
 fn a_syn_is_answered_with_its_forged_number(rt: HostRuntime) -> Result<(), Fail> {
     let alloc = rt.alloc();
@@ -195,7 +282,7 @@ fn each_record_has_its_verdict(rt: HostRuntime) -> Result<(), Fail> {
             "0 - badtcp sum 2835 2834\nrecords 1 outs 0\n",
         ),
         (&[fragment], "0 - badip fragment\nrecords 1 outs 0\n"),
-        (&[to_port_81], "0 - notbuilt\nrecords 1 outs 0\n"),
+        (&[to_port_81], "0 - notours\nrecords 1 outs 0\n"),
     ];
     for (frames, report) in rows {
         let trace = syns(alloc, frames)?;
@@ -203,6 +290,151 @@ fn each_record_has_its_verdict(rt: HostRuntime) -> Result<(), Fail> {
             left_of(alloc, PLAIN, &trace, "report.txt")?.as_slice(),
             report.as_bytes()
         );
+    }
+    Ok(())
+}
+
+#[test]
+fn segments_are_handled_by_the_table(rt: HostRuntime) -> Result<(), Fail> {
+    let alloc = rt.alloc();
+    let rows: [(&[Sent<'_>], &str, &str); 8] = [
+        (
+            &[
+                OPENING,
+                (Who::Client, ACK, 1001, FORGED + 1, &[]),
+                REQUEST,
+                ACCEPTING,
+                (Who::Server, ACK, 70001, 1070, &[]),
+                (Who::Server, PSH | ACK, 70001, 1070, &[b'y'; 200]),
+                (Who::Client, ACK, 1070, FORGED + 201, &[]),
+                (Who::Server, FIN | ACK, 70201, 1070, &[]),
+                (Who::Client, FIN | ACK, 1070, FORGED + 202, &[]),
+                (Who::Server, ACK, 70202, 1071, &[]),
+            ],
+            "0 1 answered\n1 1 waiting\n2 1 asked 0 17163\n3 1 opened\n4 1 forwarded\n5 1 forwarded\n6 1 forwarded\n7 1 forwarded\n8 1 forwarded\n9 1 forwarded\nrecords 10 outs 10\n",
+            "0 198.51.100.10:80 > 192.0.2.7:40000 AS 1623089032 1001 14600 0\n1 198.51.100.10:17163 > 10.0.0.1:8080 S 1000 0 64240 0\n2 198.51.100.10:17163 > 10.0.0.1:8080 A 1001 70001 64240 0\n3 198.51.100.10:17163 > 10.0.0.1:8080 AP 1001 70001 64240 69\n4 198.51.100.10:80 > 192.0.2.7:40000 A 1623089033 1070 64240 0\n5 198.51.100.10:80 > 192.0.2.7:40000 AP 1623089033 1070 64240 200\n6 198.51.100.10:17163 > 10.0.0.1:8080 A 1070 70201 64240 0\n7 198.51.100.10:80 > 192.0.2.7:40000 AF 1623089233 1070 64240 0\n8 198.51.100.10:17163 > 10.0.0.1:8080 AF 1070 70202 64240 0\n9 198.51.100.10:80 > 192.0.2.7:40000 A 1623089234 1071 64240 0\n",
+        ),
+        (
+            &[
+                (Who::Client, OPEN, 4_294_967_295, 0, &[]),
+                (Who::Client, ACK, 0, FORGED + 1, HEAD),
+            ],
+            "0 1 answered\n1 1 asked 0 17163\nrecords 2 outs 2\n",
+            "0 198.51.100.10:80 > 192.0.2.7:40000 AS 1623089032 0 14600 0\n1 198.51.100.10:17163 > 10.0.0.1:8080 S 4294967295 0 64240 0\n",
+        ),
+        (
+            &[
+                OPENING,
+                (Who::Client, ACK, 1041, FORGED + 1, PIECES[2]),
+                (Who::Client, ACK, 1001, FORGED + 1, PIECES[0]),
+                (Who::Client, ACK, 1021, FORGED + 1, PIECES[1]),
+                (Who::Client, ACK, 1041, FORGED + 1, PIECES[2]),
+            ],
+            "0 1 answered\n1 1 ahead 0 40\n2 1 held 20\n3 1 held 40\n4 1 asked 0 17163\nrecords 5 outs 2\n",
+            "0 198.51.100.10:80 > 192.0.2.7:40000 AS 1623089032 1001 14600 0\n1 198.51.100.10:17163 > 10.0.0.1:8080 S 1000 0 64240 0\n",
+        ),
+        (
+            &[
+                OPENING,
+                REQUEST,
+                (Who::Server, OPEN | ACK, 70000, 1002, &[]),
+                ACCEPTING,
+                (Who::Server, OPEN | ACK, 70001, 1001, &[]),
+            ],
+            "0 1 answered\n1 1 asked 0 17163\n2 1 badack 1002\n3 1 opened\n4 1 otheropen 70000\nrecords 5 outs 4\n",
+            "0 198.51.100.10:80 > 192.0.2.7:40000 AS 1623089032 1001 14600 0\n1 198.51.100.10:17163 > 10.0.0.1:8080 S 1000 0 64240 0\n2 198.51.100.10:17163 > 10.0.0.1:8080 A 1001 70001 64240 0\n3 198.51.100.10:17163 > 10.0.0.1:8080 AP 1001 70001 64240 69\n",
+        ),
+        (
+            &[
+                OPENING,
+                REQUEST,
+                (Who::Server, ACK, 70001, 1070, &[]),
+                (Who::Server, RST | ACK, 0, 1001, &[]),
+            ],
+            "0 1 answered\n1 1 asked 0 17163\n2 1 early\n3 1 turnedaway\nrecords 4 outs 3\n",
+            "0 198.51.100.10:80 > 192.0.2.7:40000 AS 1623089032 1001 14600 0\n1 198.51.100.10:17163 > 10.0.0.1:8080 S 1000 0 64240 0\n2 198.51.100.10:80 > 192.0.2.7:40000 R 1623089033 0 0 0\n",
+        ),
+        (
+            &[
+                OPENING,
+                (
+                    Who::Client,
+                    ACK,
+                    1001,
+                    FORGED + 1,
+                    b"GET / HTTP/1.1\r\nHost: no.example\r\n\r\n",
+                ),
+            ],
+            "0 1 answered\n1 1 refused norule\nrecords 2 outs 2\n",
+            "0 198.51.100.10:80 > 192.0.2.7:40000 AS 1623089032 1001 14600 0\n1 198.51.100.10:80 > 192.0.2.7:40000 R 1623089033 0 0 0\n",
+        ),
+        (
+            &[
+                (Who::Client, ACK, 1001, 777, HEAD),
+                (Who::Client, RST, 1001, 0, &[]),
+                (Who::Server, ACK, 70001, 1001, &[]),
+            ],
+            "0 1 unknown\n1 1 unknown\n2 1 unknown\nrecords 3 outs 2\n",
+            "0 198.51.100.10:80 > 192.0.2.7:40000 R 777 0 0 0\n1 198.51.100.10:17163 > 10.0.0.1:8080 R 1001 0 0 0\n",
+        ),
+        (
+            &[
+                OPENING,
+                (Who::Client, RST, 1001, 0, &[]),
+                (Who::Client, OPEN | FIN, 1000, 0, &[]),
+            ],
+            "0 1 answered\n1 1 letgo\n2 - odd 03\nrecords 3 outs 1\n",
+            "0 198.51.100.10:80 > 192.0.2.7:40000 AS 1623089032 1001 14600 0\n",
+        ),
+    ];
+    for (segments, report, sent) in rows {
+        let (lines, outs) = outcome_of(alloc, &trace_of(alloc, segments)?)?;
+        assert_eq!(rt; lines.as_slice(), report.as_bytes());
+        assert_eq!(rt; outs.as_slice(), sent.as_bytes());
+    }
+    Ok(())
+}
+
+/// A capture of a client's SYN and ten segments of 1460 bytes: a request head with so many letters in its last field, and
+/// these bytes behind them.
+fn long_head(alloc: Global, letters: usize, end: &[u8]) -> Result<Vec<u8>, Fail> {
+    let mut head = b"GET / HTTP/1.1\r\nHost: shop.example\r\nX: ".to_vec(alloc)?;
+    head.resize(head.len().saturating_add(letters), b'a')?;
+    head.extend_from_slice(end)?;
+    let mut trace = trace_of(alloc, &[OPENING])?;
+    let mut seq: u32 = 1001;
+    for piece in head.chunks(1460) {
+        let sent = (Who::Client, ACK, seq, FORGED + 1, piece);
+        add_record(&mut trace, 0, &packet_of(alloc, &sent)?)?;
+        seq = seq.wrapping_add(1460);
+    }
+    Ok(trace)
+}
+
+#[test]
+fn a_request_head_has_14600_bytes_at_most(rt: HostRuntime) -> Result<(), Fail> {
+    let alloc = rt.alloc();
+    let held =
+        "0 1 answered\n1 1 held 1460\n2 1 held 2920\n3 1 held 4380\n4 1 held 5840\n5 1 held 7300\n6 1 held 8760\n7 1 held 10220\n8 1 held 11680\n9 1 held 13140\n";
+    let rows: [(usize, &[u8], &str, &str); 2] = [
+        (
+            14557,
+            b"\r\n\r\n",
+            "10 1 asked 0 17163\nrecords 11 outs 2\n",
+            "0 198.51.100.10:80 > 192.0.2.7:40000 AS 1623089032 1001 14600 0\n1 198.51.100.10:17163 > 10.0.0.1:8080 S 1000 0 64240 0\n",
+        ),
+        (
+            14561,
+            b"",
+            "10 1 refused toolong\nrecords 11 outs 2\n",
+            "0 198.51.100.10:80 > 192.0.2.7:40000 AS 1623089032 1001 14600 0\n1 198.51.100.10:80 > 192.0.2.7:40000 R 1623089033 0 0 0\n",
+        ),
+    ];
+    for (letters, end, report, sent) in rows {
+        let (lines, outs) = outcome_of(alloc, &long_head(alloc, letters, end)?)?;
+        let whole = format!(in alloc; "{held}{report}")?;
+        assert_eq!(rt; lines.as_slice(), whole.as_bytes());
+        assert_eq!(rt; outs.as_slice(), sent.as_bytes());
     }
     Ok(())
 }
@@ -336,10 +568,11 @@ fn refused_inputs_are_judged_in_order(rt: HostRuntime) -> Result<(), Fail> {
 fn a_refused_trace_is_named(rt: HostRuntime) -> Result<(), Fail> {
     let alloc = rt.alloc();
     let one = capture_of(alloc, 0, &SYN)?;
-    let mut cut = one.clone()?;
-    cut.pop();
     let rows = [
-        (cut, "record cut at 24"),
+        (
+            one.get(..63).unwrap_or(&[]).to_vec(alloc)?,
+            "record cut at 24",
+        ),
         (HEADER[..23].to_vec(alloc)?, "header cut at 23"),
         (changed(alloc, &HEADER, &[(0, 0xd5)])?, "magic d5c3b2a1"),
         (changed(alloc, &HEADER, &[(6, 5)])?, "version 2.5"),
@@ -375,9 +608,7 @@ fn a_write_fault_leaves_the_beginning_of_the_outputs(rt: HostRuntime) -> Result<
 #[test]
 fn inputs_above_their_limits_are_refused(rt: HostRuntime) -> Result<(), Fail> {
     let alloc = rt.alloc();
-    let blank = vec![in alloc; b' '; 1_048_576]?;
-    let mut longer = blank.clone()?;
-    longer.push(b' ')?;
+    let blank = vec![in alloc; b' '; 1_048_577]?;
     let mut most = HEADER.to_vec(alloc)?;
     most.resize(24 + 16 * 262_144, 0)?;
     let mut more = most.clone()?;
@@ -388,8 +619,13 @@ fn inputs_above_their_limits_are_refused(rt: HostRuntime) -> Result<(), Fail> {
         (DUMP, &[], &most, "0 "),
         (DUMP, &[], &more, "8 limit: trace records 262145\n"),
         (DUMP, &[], &large, "8 limit: trace bytes 67108865\n"),
-        (PLAIN, &longer, &more, "8 limit: rules bytes 1048577\n"),
-        (PLAIN, &blank, &HEADER, "10 not built: script\n"),
+        (PLAIN, &blank, &more, "8 limit: rules bytes 1048577\n"),
+        (
+            PLAIN,
+            blank.get(1..).unwrap_or(&[]),
+            &HEADER,
+            "10 not built: script\n",
+        ),
     ];
     for (words, rules, trace, end) in rows {
         let mut shelf = shelf_of(alloc, rules, trace, "give 0 0\n", &[])?;

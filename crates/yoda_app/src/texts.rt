@@ -1,20 +1,20 @@
 // What `plain` writes: the capture of what is sent, and the report.
 ghost use Rattle.std.specs.Prelude.{◌≡◌, ◌≤◌, ◌<◌, ◌++◌, length, IfOk, OnOk};
 ghost use Rattle.std.specs.List.{AllByRecursion};
-ghost use Rattle.std.specs.String.{string_bytes};
 ghost use Rattle.pcap_file.specs.Frames.{capture_of, left_of};
 ghost use Rattle.pcap_file.specs.Written.{record_bytes};
 ghost use Rattle.tcp_segment.specs.Written.{packet_bytes};
-ghost use Rattle.yoda_app.specs.Fold.{steps};
+ghost use Rattle.report_text.specs.Reports.{line_text};
+ghost use Rattle.yoda_app.specs.Fold.{run};
 ghost use Rattle.yoda_app.specs.Outs.{IsShort, sent_for, all_sent, outs_text};
-ghost use Rattle.yoda_app.specs.Reports.{report_line, report_lines, outs_count, report_text};
-ghost use Rattle.yoda_app.specs.Stores.{opening};
+ghost use Rattle.yoda_app.specs.Reports.{report_lines, outs_count, report_text};
 
+use crate::benches::open_benches;
 use crate::handling::{Handled, handle};
-use crate::report::{add_end, add_line};
-use crate::stores::Stores;
-use crate::trace::{TRACE_BYTES, TRACE_RECORDS, incoming};
+use crate::preparing::prepare;
+use crate::trace::{TRACE_BYTES, TRACE_RECORDS};
 use pcap_file::{Frame, Reader, write_header, write_record};
+use report_text::{report_end, report_line};
 use rule_table::Setup;
 use std::alloc::{AllocError, Global};
 use tcp_segment::{Segment, write};
@@ -48,7 +48,7 @@ fn add_outs(out: &mut Vec<u8>, frame: &Frame, outs: &[Segment]) -> Result<(), Al
 pub struct Texts {
     /// The capture of what is sent.
     pub out: Vec<u8>,
-    pub report: String,
+    pub report: Vec<u8>,
 }
 
 // How many records there were, and how many segments were sent for them.
@@ -67,9 +67,10 @@ fn add_record(
 ) -> Result<(), AllocError>
     requires { AllByRecursion IsShort handled.now.outs }
     ensures out { OnOk result (texts.new.out.items ≡ texts.old.out.items ++ sent_for frame.now handled.now.outs) }
-    ensures report { OnOk result (string_bytes texts.new.report ≡ string_bytes texts.old.report ++ report_line number handled.now.line) }
+    ensures report { OnOk result (texts.new.report.items ≡ texts.old.report.items ++ line_text number handled.now.line.instance handled.now.line.verdict) }
 {
-    add_line(&mut texts.report, number, &handled.line)?;
+    let line = &handled.line;
+    report_line(number, line.instance, &line.verdict, &mut texts.report)?;
     add_outs(&mut texts.out, frame, handled.outs.as_slice())
 }
 
@@ -86,19 +87,19 @@ fn add_records(
     requires inside { reader.old.place ≤ length trace.now }
     ensures out { OnOk result (
         let frames = (left_of reader.old trace.now).frames in
-        texts.new.out.items ≡ texts.old.out.items ++ all_sent frames (steps setup.now (opening setup.now) trace.now frames)) }
+        texts.new.out.items ≡ texts.old.out.items ++ all_sent frames (run setup.now trace.now frames)) }
     ensures report { OnOk result (
         let frames = (left_of reader.old trace.now).frames in
-        string_bytes texts.new.report ≡ string_bytes texts.old.report ++ report_lines 0 (steps setup.now (opening setup.now) trace.now frames)) }
-    ensures records { IfOk result (λ c. c.records ≡ length (steps setup.now (opening setup.now) trace.now (left_of reader.old trace.now).frames)) }
-    ensures outs { IfOk result (λ c. c.outs ≡ outs_count (steps setup.now (opening setup.now) trace.now (left_of reader.old trace.now).frames)) }
+        texts.new.report.items ≡ texts.old.report.items ++ report_lines 0 (run setup.now trace.now frames)) }
+    ensures records { IfOk result (λ c. c.records ≡ length (run setup.now trace.now (left_of reader.old trace.now).frames)) }
+    ensures outs { IfOk result (λ c. c.outs ≡ outs_count (run setup.now trace.now (left_of reader.old trace.now).frames)) }
 {
-    setup.known();
-    let mut stores = Stores::new(alloc, setup.shards(), setup.copies())?;
+    let mut benches = open_benches(alloc, setup)?;
     let mut records = 0;
     let mut outs = 0;
     while let Ok(Some(frame)) = reader.next(trace) {
-        let handled = handle(alloc, setup, &mut stores, &incoming(trace, &frame))?;
+        let prepared = prepare(alloc, setup, trace, &frame)?;
+        let handled = handle(alloc, setup, &mut benches, records, prepared)?;
         add_record(texts, records, &frame, &handled)?;
         records += 1;
         outs += handled.outs.as_slice().len() as u32;
@@ -112,14 +113,14 @@ pub fn plain_texts(alloc: Global, setup: &Setup, trace: &[u8]) -> Result<Texts, 
     requires few { length (capture_of trace.now).frames ≤ TRACE_RECORDS }
     ensures out { IfOk result (λ t.
         let frames = (capture_of trace.now).frames in
-        t.out.items ≡ outs_text frames (steps setup.now (opening setup.now) trace.now frames)) }
+        t.out.items ≡ outs_text frames (run setup.now trace.now frames)) }
     ensures report { IfOk result (λ t.
         let frames = (capture_of trace.now).frames in
-        string_bytes t.report ≡ report_text (steps setup.now (opening setup.now) trace.now frames)) }
+        t.report.items ≡ report_text (run setup.now trace.now frames)) }
 {
     let mut out = Vec::new(alloc);
     write_header(&mut out)?;
-    let report = String::new(alloc);
+    let report = Vec::new(alloc);
     let mut texts = Texts { out, report };
     let counts = match Reader::open(trace) {
         Ok(mut reader) => add_records(alloc, setup, &mut texts, &mut reader, trace)?,
@@ -128,6 +129,6 @@ pub fn plain_texts(alloc: Global, setup: &Setup, trace: &[u8]) -> Result<Texts, 
             outs: 0,
         },
     };
-    add_end(&mut texts.report, counts.records, counts.outs)?;
+    report_end(counts.records, counts.outs, &mut texts.report)?;
     Ok(texts)
 }

@@ -1,11 +1,11 @@
 // The frames of a trace.
-ghost use Rattle.std.specs.Prelude.{◌≡◌, ◌≤◌, ◌+◌, length};
+ghost use Rattle.std.specs.Prelude.{◌≡◌, ◌≤◌, ◌+◌, length, IfOk, IfErr, Ok, Err};
 ghost use Rattle.pcap_file.specs.Ethernet.{network_of};
 ghost use Rattle.pcap_file.specs.Frames.{capture_of, left_of};
-ghost use Rattle.yoda_app.specs.Incoming.{network_incoming, incoming};
+ghost use Rattle.yoda_app.specs.Incoming.{network_incoming, incoming, segment_of};
 
 use crate::incoming::{Incoming, packet_incoming};
-use crate::verdict::Verdict;
+use job_core::Verdict;
 use pcap_file::{Frame, Link, PcapFault, Reader, network};
 
 /// The number of bytes that a trace has at most.
@@ -66,8 +66,10 @@ impl Survey {
 }
 
 // What comes in with the bytes of a frame.
-fn frame_incoming(link: Link, frame: &[u8]) -> Result<Incoming, Verdict>
-    ensures { result ≡ network_incoming (network_of link frame.now) }
+fn frame_incoming(link: Link, frame: &[u8]) -> Result<Incoming<'_>, Verdict>
+    ensures found { IfOk result (λ i. network_incoming (network_of link frame.now) ≡ Ok (segment_of i)) }
+    ensures fault { IfErr result (λ v. network_incoming (network_of link frame.now) ≡ Err v) }
+    ensures short { IfOk result (λ i. length i.body.now ≤ 65495) }
 {
     match network(link, frame) {
         Some(packet) => packet_incoming(packet),
@@ -75,10 +77,13 @@ fn frame_incoming(link: Link, frame: &[u8]) -> Result<Incoming, Verdict>
     }
 }
 
-/// The segment that a frame of the trace holds, or the verdict on a frame that holds none.
-pub fn incoming(trace: &[u8], frame: &Frame) -> Result<Incoming, Verdict>
+/// The segment that a frame of the trace holds, or the verdict on a frame that holds none. A segment has 65,495 bytes of
+/// data at most.
+pub fn incoming<'a>(trace: &'a [u8], frame: &Frame) -> Result<Incoming<'a>, Verdict>
     requires { frame.now.at + frame.now.kept ≤ length trace.now }
-    ensures { result ≡ incoming trace.now frame.now }
+    ensures found { IfOk result (λ i. incoming trace.now frame.now ≡ Ok (segment_of i)) }
+    ensures fault { IfErr result (λ v. incoming trace.now frame.now ≡ Err v) }
+    ensures short { IfOk result (λ i. length i.body.now ≤ 65495) }
 {
     if frame.kept < frame.original {
         return Err(Verdict::SnapCut);
