@@ -1,0 +1,6 @@
+mod WordLemmas
+mod LineLemmas
+mod LifeLemmas
+mod IndexLemmas
+mod AssignLemmas
+mod FaultLemmas

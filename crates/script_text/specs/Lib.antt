@@ -1,0 +1,9 @@
+pub mod Words
+pub mod Faults
+pub mod Reading
+pub mod Lives
+pub mod Changes
+pub mod Index
+pub mod Inside
+pub mod Scripts
+pub mod Laws
