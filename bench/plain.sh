@@ -3,17 +3,12 @@
 # and nearly 64 MiB of forwarded traffic of a thousand flows; and `yoda plain` over 16,384 records of the same kind. What
 # is to be kept are the ratios, in docs/BENCHMARKS.md.
 set -eu
-top=$(cd "$(dirname "$0")/.." && pwd)
-for tool in tcprewrite python3; do command -v $tool >/dev/null || { echo "bench: there is no $tool"; exit 1; }; done
-. "$top/tests/program.bash"
-program "$top"
-out=$(mktemp -d)
-trap 'rm -rf "$out"' EXIT
-cd "$out"
+. "$(dirname "$0")/begin.bash"
+begin tcprewrite
 : > script.txt
-python3 "$top/bench/forwarded.py" 16384 rules.toml small.pcap
-python3 "$top/bench/forwarded.py" 262144 rules.toml large.pcap
-python3 "$top/bench/beside.py" large.pcap \
+python3 "$TOP/bench/forwarded.py" 16384 rules.toml small.pcap
+python3 "$TOP/bench/forwarded.py" 262144 rules.toml large.pcap
+python3 "$TOP/bench/beside.py" large.pcap \
   "yoda plain" "$PROGRAM plain rules.toml large.pcap script.txt out.pcap report.txt" \
   "tcprewrite" "tcprewrite -i large.pcap -o other.pcap --srcipmap=0.0.0.0/0:198.51.100.10 --portmap=80:8080 --fixcsum" \
   "yoda plain on 16,384 records" "$PROGRAM plain rules.toml small.pcap script.txt out.pcap report.txt"

@@ -1,0 +1,12 @@
+# Begins a benchmark that needs these tools: PROGRAM is the built program, TOP the repository, and the benchmark goes on in
+# a folder of its own, which is gone when it ends.
+begin() {
+  local tool
+  TOP=$(cd "$(dirname "${BASH_SOURCE[0]}")/.." && pwd)
+  for tool in python3 "$@"; do command -v "$tool" >/dev/null || { echo "bench: there is no $tool"; exit 1; }; done
+  . "$TOP/tests/program.bash"
+  program "$TOP"
+  out=$(mktemp -d)
+  trap 'rm -rf "$out"' EXIT
+  cd "$out"
+}
