@@ -96,9 +96,7 @@ impl Job {
             | Phase::Porting { flow, .. } => Some(flow),
         }
     }
-}
 
-impl Job {
     /// The table's next move after one more answer to the ask that stands. The job has not ended, the answer may answer
     /// the ask, and `held` is what is held of the flow. At an ask the job goes on with it; at an end it is to be dropped.
     /// The one error is want of memory, and then the job is as before.
