@@ -1,9 +1,13 @@
 -- How an instance's changes grow with the lines.
-use Rattle.std.proofs.Common.{◌≡◌, ℕ, ◌+◌, ◌-◌, ◌%◌, ◌<◌, ◌≤◌, true, false, eqb, ltb, leb, ◌&&◌, not, inl, inr, List, [], ◌∷◌, ◌++◌, length, slice_get, unwrap_or, Some, refl, sym, ap, ◌∙◌, cond, arith, All, length-append}
+use Rattle.std.proofs.Common.{◌≡◌, ℕ, zero, suc, ◌+◌, ◌-◌, ◌%◌, ◌<◌, ◌≤◌, true, false, eqb, ltb, leb, ◌&&◌, not, inl, inr, List, [], ◌∷◌, ◌++◌, length, slice_get, unwrap_or, Bool, Some, take, get_or, refl, sym, ap, ◌∙◌, cond, arith, All, length-append}
 use Rattle.std.specs.List.{count_by}
+use Rattle.std.specs.List.Sorted.{IsNonDecreasing, IsPartitionPoint}
+use Rattle.std.proofs.Math.Seq.{take-length}
 use Rattle.std.proofs.lemmas.Bool.{cond-true, cond-false, and_from, and_parts, and_right, cases_lt, cases_Bool, eqb-false, eq-eqb, ne_eqb, eqb-true, lt-ltb, le-ltb, le-leb, lt-leb, leb-true, not_from_true, not_from_false}
-use Rattle.std.proofs.lemmas.List.Sums.{sum_by-append}
-use Rattle.std.proofs.lemmas.List.Elements.{All-push, All-weaker, All-head, All-tail}
+use Rattle.std.proofs.lemmas.List.Sums.{sum_by-append, count_by_more_yes, count_by_more_no}
+use Rattle.std.proofs.lemmas.List.Sorted.{IsNonDecreasingBy-push}
+use Rattle.std.proofs.lemmas.List.Elements.{All-push, All-from_get_or, All-head, All-tail}
+use Rattle.std.proofs.lemmas.Option.{unwrap_or-slice_get, slice_get-get_or}
 use Rattle.script_text.specs.declared.line.Line.{Line}
 use Rattle.script_text.specs.declared.line.Line.TheVariants.{Crash, Back}
 use Rattle.script_text.specs.Faults.{turns, last_turn, may_crash, may_back}
@@ -56,19 +60,56 @@ life-other lines n cs x e life = record {
   sorted = life.sorted;
 }
 
+-- the last one, by its place
+last-at : (cs : List ℕ) (d : ℕ) → 0 < length cs → get_or cs (length cs - 1) d ≡ last_change cs
+last-at cs d some =
+    sym (unwrap_or-slice_get cs (length cs - 1) d)
+    ∙ ap (λ o. unwrap_or o d) (slice_get-get_or cs (length cs - 1) 0 (omega arith))
+    ∙ sym (unwrap_or-slice_get cs (length cs - 1) 0)
+
+-- none is above what the last is not above
+below-last : (cs : List ℕ) (y : ℕ) → last_change cs ≤ y → IsNonDecreasing cs → All (λ c. c ≤ y) cs
+below-last cs y up sorted =
+    All-from_get_or (λ c. c ≤ y) cs 0 (λ i inside.
+    let rises : get_or cs i 0 ≤ get_or cs (length cs - 1) 0 = sorted i (length cs - 1) 0 (omega arith) (omega arith) in
+    let last : get_or cs (length cs - 1) 0 ≡ last_change cs = last-at cs 0 (omega arith) in
+    omega arith)
+
 -- the changes do not fall, with one more
-sorted-last : (cs : List ℕ) (y : ℕ) → last_change cs ≤ y → All (λ c. c ≤ last_change cs) cs → All (λ c. c ≤ y) (cs ++ y ∷ [])
-sorted-last cs y up all =
-    All-push (λ c. c ≤ y) cs y (All-weaker (λ c. c ≤ last_change cs) (λ c. c ≤ y) (λ c below. omega arith) cs all) (omega arith)
+sorted-last : (cs : List ℕ) (y : ℕ) → last_change cs ≤ y → IsNonDecreasing cs → IsNonDecreasing (cs ++ y ∷ [])
+sorted-last cs y up sorted =
+    IsNonDecreasingBy-push (λ x. x) cs y sorted (λ d some. let last : get_or cs (length cs - 1) d ≡ last_change cs = last-at cs d some in omega arith)
 
-count-whole : (cs : List ℕ) (y at : ℕ) → last_change cs ≤ y → All (λ c. c ≤ last_change cs) cs → y ≤ at
+count-whole : (cs : List ℕ) (y at : ℕ) → last_change cs ≤ y → IsNonDecreasing cs → y ≤ at
     → count_by (λ c. leb c at) (cs ++ y ∷ []) ≡ length cs + 1
-count-whole cs y at up all inside =
-    count-all (cs ++ y ∷ []) at (All-weaker (λ c. c ≤ y) (λ c. c ≤ at) (λ c below. omega arith) (cs ++ y ∷ []) (sorted-last cs y up all))
-    ∙ length-last cs y
+count-whole cs y at up sorted inside =
+    count-all (cs ++ y ∷ []) at (All-push (λ c. c ≤ at) cs y (below-last cs at (omega arith) sorted) inside) ∙ length-last cs y
 
-resorted : (cs : List ℕ) (y : ℕ) → All (λ c. c ≤ y) (cs ++ y ∷ []) → All (λ c. c ≤ last_change (cs ++ y ∷ [])) (cs ++ y ∷ [])
-resorted cs y all = All-weaker (λ c. c ≤ y) (λ c. c ≤ last_change (cs ++ y ∷ [])) (λ c below. omega (arith, last_change-last cs y)) (cs ++ y ∷ []) all
+-- so many pass a test as stand before the first that does not
+pub count-point : (p : ℕ → Bool) (xs : List ℕ) (i : ℕ) → i ≤ length xs → IsPartitionPoint (λ c. p c ≡ true) (λ c. p c ≡ false) xs i
+    → count_by p xs ≡ i
+count-point p xs i inside point =
+    let whole = behind (length xs - i) (omega arith) in
+    let all : i + (length xs - i) ≡ length xs = omega arith in
+    ap (count_by p) (sym (take-length xs)) ∙ ap (λ n. count_by p (take n xs)) (sym all) ∙ whole
+  where
+    before : (k : ℕ) → k ≤ i → count_by p (take k xs) ≡ k
+    before zero within = refl
+    before (suc k) within =
+        let here : p (get_or xs k 0) ≡ true = point.0 k 0 (omega arith) (omega arith) in
+        let rest : count_by p (take k xs) ≡ k = before k (omega arith) in
+        let more : count_by p (take (k + 1) xs) ≡ count_by p (take k xs) + 1 = count_by_more_yes p xs k 0 (omega arith) here in
+        let place : suc k ≡ k + 1 = omega arith in
+        ap (λ n. count_by p (take n xs)) place ∙ more ∙ omega arith
+
+    behind : (m : ℕ) → i + m ≤ length xs → count_by p (take (i + m) xs) ≡ i
+    behind zero within = let place : i + 0 ≡ i = omega arith in ap (λ n. count_by p (take n xs)) place ∙ before i (omega arith)
+    behind (suc m) within =
+        let here : p (get_or xs (i + m) 0) ≡ false = point.1 (i + m) 0 (omega arith) (omega arith) in
+        let rest : count_by p (take (i + m) xs) ≡ i = behind m (omega arith) in
+        let more : count_by p (take (i + m + 1) xs) ≡ count_by p (take (i + m) xs) = count_by_more_no p xs (i + m) 0 (omega arith) here in
+        let place : i + suc m ≡ i + m + 1 = omega arith in
+        ap (λ n. count_by p (take n xs)) place ∙ more ∙ rest
 
 pub life-crash : (lines : List Line) (n item after : ℕ) (cs : List ℕ) → may_crash (last_turn n lines) item ≡ true
     → IsLife lines n cs → IsLife (lines ++ Crash n item after ∷ []) n (cs ++ (item + 1) ∷ [])
@@ -76,7 +117,7 @@ life-crash lines n item after cs may life = record {
   lives = λ at. elim (cases_lt item at) [ inl below ↦ down at below | inr above ↦ same at above ];
   crash = λ it. ap (λ t. may_crash t it) turn ∙ sym (ap (λ b. b && leb (last_change new) it) odd);
   back = λ it. ap (λ t. may_back t it) turn ∙ follows it ∙ sym (ap (λ b. not b && leb (last_change new) it) odd);
-  sorted = resorted cs y (sorted-last cs y up life.sorted);
+  sorted = sorted-last cs y up life.sorted;
 }
   where
     x : Line
@@ -130,7 +171,7 @@ life-back lines n item cs may life = record {
   lives = λ at. elim (cases_lt at item) [ inl above ↦ same at above | inr inside ↦ up_again at inside ];
   crash = λ it. ap (λ t. may_crash t it) turn ∙ ap (λ y. leb y it) (sym (last_change-last cs item)) ∙ sym (ap (λ b. b && leb (last_change new) it) even);
   back = λ it. ap (λ t. may_back t it) turn ∙ sym (ap (λ b. not b && leb (last_change new) it) even);
-  sorted = resorted cs item (sorted-last cs item up life.sorted);
+  sorted = sorted-last cs item up life.sorted;
 }
   where
     x : Line

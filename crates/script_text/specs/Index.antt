@@ -1,6 +1,7 @@
 -- What an index tells of the lines that it was made for.
-use Rattle.std.specs.Prelude.{◌≡◌, ℕ, ◌-◌, ◌^◌, ◌<◌, ◌≤◌, ⊤, false, ◌&&◌, not, nat_eq, nat_le, All, List, length}
+use Rattle.std.specs.Prelude.{◌≡◌, ℕ, ◌-◌, ◌^◌, ◌<◌, ◌≤◌, ⊤, false, ◌&&◌, not, nat_eq, nat_le, List, length}
 use Rattle.std.specs.List.{list_any, count_by}
+use Rattle.std.specs.List.Sorted.{IsNonDecreasing}
 use Rattle.std.specs.HashMap as map
 use Rattle.std.specs.HashSet as set
 use Rattle.script_text.specs.declared.line.Line.{Line}
@@ -15,7 +16,7 @@ pub record IsLife (lines : List Line) (number : ℕ) (changes : List ℕ) : Type
   pub lives : (at : ℕ) → living lines number at ≡ is_even (count_by (λ c. nat_le c at) changes)
   pub crash : (item : ℕ) → may_crash (last_turn number lines) item ≡ (is_even (length changes) && nat_le (last_change changes) item)
   pub back : (item : ℕ) → may_back (last_turn number lines) item ≡ (not (is_even (length changes)) && nat_le (last_change changes) item)
-  pub sorted : All (λ c. c ≤ last_change changes) changes
+  pub sorted : IsNonDecreasing changes
 
 -- the index is that of these lines
 pub record IsIndex (lines : List Line) (index : Index) : Type 0 where

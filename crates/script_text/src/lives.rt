@@ -1,5 +1,6 @@
 ghost use Rattle.std.specs.Prelude.{◌≡◌, ◌≢◌, ℕ, ◌+◌, ◌<◌, ◌&&◌, not, nat_le, [], ◌∷◌, ◌++◌, length, IfOk, OnOk};
 ghost use Rattle.std.specs.List.{count_by};
+ghost use Rattle.std.specs.List.Sorted.{IsNonDecreasing};
 ghost use Rattle.script_text.specs.Changes.{changes_of, is_even, last_change};
 
 use std::alloc::{AllocError, Global};
@@ -34,12 +35,12 @@ impl Lives {
         }
     }
 
-    /// Whether the instance is living for the record `item`.
+    /// Whether the instance is living for the record `item`, by its changes, which do not fall.
     pub fn is_living(&self, instance: u16, item: u32) -> bool
-        ensures { result ≡ is_even (count_by (λ c. nat_le c item) (changes_of self.now instance)) }
+        ensures { IsNonDecreasing (changes_of self.now instance)
+            → result ≡ is_even (count_by (λ c. nat_le c item) (changes_of self.now instance)) }
     {
-        let changes = self.of(instance);
-        changes.iter().filter(|c| **c <= item).count() % 2 == 0
+        self.of(instance).partition_point(|c| *c <= item) % 2 == 0
     }
 
     /// Whether the instance lives after all its changes, and the next can come at the record `item`.
