@@ -1,15 +1,40 @@
-ghost use Rattle.std.specs.Prelude.{◌≡◌, ◌≤◌, ◌+◌, ◌%◌, length, sum};
+ghost use Rattle.std.specs.Prelude.{◌≡◌, ◌≤◌, ◌<◌, ◌+◌, ◌%◌, ℕ, length, sum};
 ghost use Rattle.ipv4.specs.Checksum.{words, ones, checksum, blanked};
 
-/// The one's complement sum of two words: a carry out of the highest bit is added at the lowest.
-fn add_word(total: u16, word: u16) -> u16
-    ensures { result ≡ ones (total + word) }
+/// What a total is in 16 bits of one's complement.
+fn folded(total: u64) -> u16
+    ensures { result ≡ ones total }
 {
-    let wide = total as u32 + word as u32;
-    if wide > 0xffff {
-        (wide - 0xffff) as u16
+    if total == 0 {
+        0
     } else {
-        wide as u16
+        ((total - 1) % 0xffff + 1) as u16
+    }
+}
+
+/// The one's complement sum of two numbers of 64 bits: a carry out of the highest bit is added at the lowest. In 16 bits
+/// it is what their sum is, since 2^64 is 1 there.
+fn add_around(total: u64, more: u64) -> u64
+    ensures { (rest : ℕ) → ones (result + rest) ≡ ones (total + more + rest) }
+{
+    let (wrapped, carried) = total.overflowing_add(more);
+    if carried { wrapped + 1 } else { wrapped }
+}
+
+/// The sum of the words of fewer than eight bytes.
+fn few_words(bytes: &[u8]) -> u64
+    requires { length bytes.now < 8 }
+    ensures { result ≡ sum (words bytes.now) }
+{
+    let mut total = 0;
+    let mut rest = bytes;
+    while let [high, low, after @ ..] = rest {
+        total += u16::from_be_bytes([*high, *low]) as u64;
+        rest = after;
+    }
+    match rest {
+        [last, ..] => total + u16::from_be_bytes([*last, 0]) as u64,
+        [] => total,
     }
 }
 
@@ -18,16 +43,13 @@ fn add_word(total: u16, word: u16) -> u16
 pub fn add_words(total: u16, bytes: &[u8]) -> u16
     ensures { result ≡ ones (total + sum (words bytes.now)) }
 {
-    let mut carried = total;
+    let mut wide = total as u64;
     let mut rest = bytes;
-    while let [high, low, after @ ..] = rest {
-        carried = add_word(carried, u16::from_be_bytes([*high, *low]));
+    while let [a, b, c, d, e, f, g, h, after @ ..] = rest {
+        wide = add_around(wide, u64::from_be_bytes([*a, *b, *c, *d, *e, *f, *g, *h]));
         rest = after;
     }
-    match rest {
-        [last, ..] => add_word(carried, u16::from_be_bytes([*last, 0])),
-        [] => carried,
-    }
+    folded(add_around(wide, few_words(rest)))
 }
 
 /// The same where the two bytes from the even place `i` count as zero, as the checksum's own field does.
