@@ -12,7 +12,7 @@ mod writing;
 pub use capture::{Frame, Link, PcapFault, Settings};
 pub use ethernet::network;
 pub use reading::{Reader, capture_is_its_frames};
-pub use writing::{write_header, write_record, written_capture_is_read};
+pub use writing::{write_header, write_record, write_record_head, written_capture_is_read};
 
 #[cfg(test)]
 mod tests;

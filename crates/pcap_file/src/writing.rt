@@ -1,4 +1,4 @@
-ghost use Rattle.std.specs.Prelude.{◌≡◌, ◌≤◌, ◌++◌, List, length, OnOk, OnErr};
+ghost use Rattle.std.specs.Prelude.{◌≡◌, ◌≤◌, ◌<◌, ◌+◌, ◌++◌, List, length, vec_len, vec_capacity, OnOk, OnErr};
 ghost use Rattle.std.specs.List.{AllByRecursion};
 ghost use Rattle.pcap_file.specs.Written.{header_bytes, head_bytes, record_bytes, Record, Fits, IsReadAgain};
 
@@ -30,6 +30,24 @@ fn head_of(seconds: u32, micros: u32, kept: u32) -> [u8; 16]
     ]
 }
 
+/// Writes the head of the record of a frame of `kept` bytes, which is kept whole, at the end of `out`; the frame itself is
+/// to follow it. The one error is want of memory, and then `out` is as it was.
+pub fn write_record_head(
+    seconds: u32,
+    micros: u32,
+    kept: u32,
+    out: &mut Vec<u8>,
+) -> Result<(), AllocError>
+    ensures ok { OnOk result (out.new.items ≡ out.old.items ++ head_bytes seconds micros kept) }
+    ensures err { OnErr result (out.new.items ≡ out.old.items) }
+    ensures len { OnOk result (vec_len out.new ≡ vec_len out.old + 16) }
+    // Where there was room for the head it is written, and the room behind it stays.
+    ensures room { OnErr result (vec_capacity out.old < vec_len out.old + 16) }
+    ensures capacity { vec_capacity out.old ≤ vec_capacity out.new }
+{
+    out.extend_from_slice(&head_of(seconds, micros, kept))
+}
+
 /// Writes the record of a frame that is kept whole at the end of `out`. The one error is want of memory, and then `out`
 /// is as it was.
 pub fn write_record(
@@ -42,9 +60,8 @@ pub fn write_record(
     ensures ok { OnOk result (out.new.items ≡ out.old.items ++ record_bytes seconds micros bytes.now) }
     ensures err { OnErr result (out.new.items ≡ out.old.items) }
 {
-    let head = head_of(seconds, micros, bytes.len() as u32);
-    out.reserve(head.len() + bytes.len())?;
-    out.extend_from_slice(&head)?;
+    out.reserve(16 + bytes.len())?;
+    write_record_head(seconds, micros, bytes.len() as u32, out)?;
     out.extend_from_slice(bytes)?;
     Ok(())
 }
