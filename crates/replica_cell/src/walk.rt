@@ -1,6 +1,6 @@
-ghost use Rattle.std.specs.Prelude.{◌≡◌, ◌+◌, ◌<◌, ◌^◌, OnOk, OnErr};
+ghost use Rattle.std.specs.Prelude.{◌≡◌, ◌+◌, ◌<◌, ◌^◌, IfOk, OnOk, OnErr};
 ghost use Rattle.flow_record.specs.Records.{FitsItsKey};
-ghost use Rattle.replica_cell.specs.Walks.{start_of, standing, moved_put, moved_look, walk_at, view_at, CarriedFits, CarriesAsAsked};
+ghost use Rattle.replica_cell.specs.Walks.{start_of, standing, moved_put, moved_look, walk_at, view_at, stores_at, CarriedFits, CarriesAsAsked};
 
 use crate::answer::{Look, Put};
 use crate::cell::Cell;
@@ -53,12 +53,14 @@ pub fn start(ask: Ask) -> Walk
 
 impl Walk {
     /// The operation at the cell of the walk's place, and the move. What the walk carries is put into the cell, unless
-    /// another record is there, which is then carried; where it carries nothing it looks. An `Err` changes nothing.
-    pub fn step(&mut self, cell: &mut Cell) -> Result<(), AllocError>
+    /// another record is there, which is then carried; where it carries nothing it looks. It answers whether the cell
+    /// stored what the walk carries. An `Err` changes nothing.
+    pub fn step(&mut self, cell: &mut Cell) -> Result<bool, AllocError>
         requires room { self.old.place + 1 < 2 ^ 32 }
         requires fits { CarriedFits self.old }
         ensures walk { OnOk result (self.new ≡ walk_at self.old.carried self.old cell.old.replica) }
         ensures cell { OnOk result (cell.new ≡ view_at self.old cell.old) }
+        ensures stored { IfOk result (λ stored. stored ≡ stores_at self.old.carried self.old cell.old.replica) }
         ensures fits { OnOk result (CarriedFits self.new) }
         ensures err { OnErr result (self.new ≡ self.old) }
         ensures err_cell { OnErr result (cell.new ≡ cell.old) }
@@ -68,13 +70,14 @@ impl Walk {
             None => {
                 let said = cell.look(&key);
                 *self = self.after_look(said);
+                Ok(false)
             }
             Some(item) => {
                 let said = cell.put_new(&key, &item)?;
                 *self = self.after_put(said);
+                Ok(said.is_stored())
             }
         }
-        Ok(())
     }
 
     /// Where the walk stands among `count` cells.

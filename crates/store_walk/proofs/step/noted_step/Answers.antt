@@ -3,7 +3,7 @@ use Rattle.std.specs.Prelude.{slice_get}
 use Rattle.std.proofs.lemmas.List.{length-map}
 use Rattle.flow_record.specs.Records.{asked_key}
 use Rattle.flow_record.specs.declared.record.Ask.{Ask}
-use Rattle.replica_cell.specs.Walks.{standing, walk_on, walk_after, replicas, view_at, CarriesAsAsked, EndsAbsent, EndsDown}
+use Rattle.replica_cell.specs.Walks.{standing, walk_on, walk_after, replicas, view_at, stores_in, CarriesAsAsked, EndsAbsent, EndsDown}
 use Rattle.replica_cell.specs.Cells.{Replica, CellView}
 use Rattle.replica_cell.specs.declared.walk.Stepped.{Stepped}
 use Rattle.replica_cell.specs.declared.walk.Stepped.TheVariants.{Going, Absent, Down}
@@ -13,29 +13,34 @@ use Rattle.replica_cell.proofs.Steps.{at_ask}
 use Rattle.replica_cell.proofs.Views.{set-changed, replicas-views_after, get-replicas}
 use Rattle.store_walk.specs.Decides.{SaidFits}
 use Rattle.store_walk.proofs.Saids.{said_fits}
-use Rattle.store_walk.proofs.step.walk_step.Goals as goal
+use Rattle.store_walk.proofs.step.noted_step.Goals as goal
 
 pub returns-clause-views : goal.returns-clause-views
 returns-clause-views c =
     let w = c.args.walk.now in
-    set-changed (view_at w) c.args.cells.now w.place c.index-cells-walk.result c.step.new.cell c.requires.left c.in_ok-step.ensures.cell
+    set-changed (view_at w) c.args.cells.now w.place c.index-cells-walk.result c.step.new.cell c.requires.left c.in_ok-stored.ensures.cell
 
 pub returns-clause-cells : goal.returns-clause-cells
 returns-clause-cells c = ap replicas (returns-clause-views c) ∙ replicas-views_after c.args.walk.now c.args.cells.now
+
+pub returns-clause-stored : goal.returns-clause-stored
+returns-clause-stored c =
+    let w : Walk = c.args.walk.now in
+    c.in_ok-stored.ensures.stored ∙ sym (ap (stores_in w) (get-replicas c.args.cells.now w.place c.index-cells-walk.result c.requires.left))
 
 pub returns-clause-decided_fits : goal.returns-clause-decided_fits
 returns-clause-decided_fits c =
     let w = c.args.walk.now in
     let v : Walk = c.step.new.self in
     let says : Stepped = standing (length c.args.cells.now) v in
-    let same : v.ask ≡ w.ask = ap (λ (x : Walk). x.ask) c.in_ok-step.ensures.walk ∙ at_ask w.carried w _ in
+    let same : v.ask ≡ w.ask = ap (λ (x : Walk). x.ask) c.in_ok-stored.ensures.walk ∙ at_ask w.carried w _ in
     subst (λ (a : Stepped). SaidFits (asked_key w.ask) a) (sym c.standing.ensures)
-    (subst (λ (q : Ask). SaidFits (asked_key q) says) same (said_fits (length c.args.cells.now) v c.in_ok-step.ensures.fits))
+    (subst (λ (q : Ask). SaidFits (asked_key q) says) same (said_fits (length c.args.cells.now) v c.in_ok-stored.ensures.fits))
 
 after : (c : goal.After-standing) → c.step.new.self ≡ walk_after c.args.walk.now (replicas c.args.cells.now)
 after c =
     let w : Walk = c.args.walk.now in
-    c.in_ok-step.ensures.walk ∙ sym (ap (walk_on w) (get-replicas c.args.cells.now w.place c.index-cells-walk.result c.requires.left))
+    c.in_ok-stored.ensures.walk ∙ sym (ap (walk_on w) (get-replicas c.args.cells.now w.place c.index-cells-walk.result c.requires.left))
 
 count_same : (cells : List CellView) → length (replicas cells) ≡ length cells
 count_same cells = length-map cells (λ (x : CellView). x.replica)
