@@ -18,7 +18,6 @@ use Rattle.replica_cell.specs.declared.walk.Walk.{Walk}
 use Rattle.replica_cell.proofs.Origins.{after_from}
 use Rattle.replica_cell.proofs.Orders.{later_length}
 use Rattle.replica_cell.proofs.Steps.{decided_carried, same_ask, step_later}
-use Rattle.replica_cell.proofs.Undoes.{stores-has}
 use Rattle.replica_cell.proofs.Views.{get-replicas}
 use Rattle.rule_table.specs.Setups.{SetupView, IsSetup}
 use Rattle.bench.specs.Bench.{answer_of}
@@ -43,43 +42,10 @@ may_answer setup cells w count known walk (Decided r) says get got is =
 may_answer setup cells w count known walk Absent says get got is = subst (MayAnswer setup w.ask) (same_Some _ _ is) (is_get_is w.ask (get refl))
 may_answer setup cells w count known walk Down says get got is = subst (MayAnswer setup w.ask) (same_Some _ _ is) tt
 
--- ---- whether a step stored
+-- ---- the list
 pub length_replicas : (cells : List CellView) → length (replicas cells) ≡ length cells
 length_replicas [] = refl
 length_replicas (c ∷ cells) = ap suc (length_replicas cells)
-
-get-changed : (f : Replica → Replica) (cells : List Replica) (n : ℕ) (c : Replica) → slice_get cells n ≡ Some c → slice_get (changed n f cells) n ≡ Some (f c)
-get-changed f [] n c is = absurd (none-some c is)
-get-changed f (d ∷ cells) zero c is = ap (λ (x : Replica). Some (f x)) (same_Some _ _ is)
-get-changed f (d ∷ cells) (suc n) c is = get-changed f cells n c is
-
--- it did where the cell lacked the key before and has it after
-module _ (w : Walk) (cells news : List CellView) (x y : CellView) (k : Key) (within : w.place < length cells) (are : replicas news ≡ cells_after w (replicas cells)) (key : k ≡ asked_key w.ask) where
-  abbrev c : Replica
-  c = (get_or cells w.place x).replica
-
-  before : slice_get (replicas cells) w.place ≡ Some c
-  before = get-replicas cells w.place x within
-
-  long : length news ≡ length cells
-  long = sym (length_replicas news) ∙ ap length are ∙ later_length (replicas cells) (cells_after w (replicas cells)) (step_later (replicas cells) w) ∙ length_replicas cells
-
-  abbrev d : Replica
-  d = (get_or news w.place y).replica
-
-  now : d ≡ cell_at w.carried w c
-  now = same_Some _ _ (sym (get-replicas news w.place y (subst (λ n. w.place < n) (sym long) within)) ∙ ap (λ (z : List Replica). slice_get z w.place) are ∙ get-changed (cell_at w.carried w) (replicas cells) w.place c before)
-
-  stored_is : stores w (replicas cells) ≡ (not (has_key c k) && has_key d k)
-  stored_is =
-      ap (stores_in w) before ∙ stores-has w.carried w c ∙ ap (λ (z : Replica). not (has_key c (asked_key w.ask)) && has_key z (asked_key w.ask)) (sym now)
-      ∙ ap (λ q. not (has_key c q) && has_key d q) (sym key)
-
-  pub stored_then : (had has : Bool) → had ≡ has_key c k → had ≡ false → has ≡ has_key d k → has ≡ stores w (replicas cells)
-  stored_then had has was lacked is = is ∙ sym (stored_is ∙ ap (λ b. not b && has_key d k) (sym was ∙ lacked))
-
-  pub stored_else : (had : Bool) → had ≡ has_key c k → had ≡ true → not had ≡ stores w (replicas cells)
-  stored_else had was held = ap not held ∙ sym (stored_is ∙ ap (λ b. not b && has_key d k) (sym was ∙ held))
 
 pub ends_get : (w : Walk) (o : Option Replica) → EndsAbsent w o → IsGet w.ask
 ends_get w None ends = absurd ends

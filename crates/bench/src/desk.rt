@@ -14,7 +14,7 @@ use job_core::{Answer, Job, Move, Next};
 use replica_cell::Cell;
 use rule_table::Setup;
 use std::alloc::AllocError;
-use store_walk::{Stepped, Walk, start, undo_step, walk_step};
+use store_walk::{Stepped, Walk, noted_step, start, undo_step};
 use tcp_segment::Bytes;
 
 /// A job on its way.
@@ -64,16 +64,14 @@ pub(crate) fn step_work(
     ensures err_cells { OnErr result (replicas cells.new ≡ replicas cells.old) }
 {
     let before = work.walk;
-    let key = before.ask.key();
-    let had = cells[before.place as usize].has(&key);
-    let Some(got) = answer_of(walk_step(&mut work.walk, cells)?) else {
+    let noted = noted_step(&mut work.walk, cells)?;
+    let Some(got) = answer_of(noted.said) else {
         return Ok(None);
     };
     match work.job.answer(setup, got, held) {
         Ok(made) => Ok(Some(made)),
         Err(refused) => {
-            let stored = !had && cells[before.place as usize].has(&key);
-            undo_step(&mut work.walk, cells, &before, stored);
+            undo_step(&mut work.walk, cells, &before, noted.stored);
             Err(refused)
         }
     }
