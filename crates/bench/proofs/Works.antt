@@ -6,7 +6,7 @@ use Rattle.flow_id.specs.declared.key.Key.{Key}
 use Rattle.flow_record.specs.Records.{asked_key, FitsItsKey}
 use Rattle.flow_record.specs.declared.record.Ask.{Ask}
 use Rattle.flow_record.specs.declared.record.Ask.TheVariants.{Get, Add}
-use Rattle.job_core.specs.Jobs.{MayAnswer, is_get, move_after}
+use Rattle.job_core.specs.Jobs.{JobView, MayAnswer, is_get, move_after}
 use Rattle.job_core.specs.declared.moves.Move.{Move}
 use Rattle.job_core.specs.declared.moves.Next.TheVariants as next
 use Rattle.job_core.specs.declared.moves.Answer.{Answer}
@@ -21,7 +21,7 @@ use Rattle.replica_cell.proofs.Steps.{decided_carried, same_ask, step_later}
 use Rattle.replica_cell.proofs.Views.{get-replicas}
 use Rattle.rule_table.specs.Setups.{SetupView, IsSetup}
 use Rattle.bench.specs.Bench.{answer_of}
-use Rattle.bench.specs.Desks.{CellsKnown, WalkKnown, Stepped as IsStepped}
+use Rattle.bench.specs.Desks.{CellsKnown, WalkKnown}
 use Rattle.bench.specs.declared.desk.Work.{Work}
 use Rattle.bench.proofs.Asks.{asked_is}
 use Rattle.bench.proofs.Fits.{asked_fit}
@@ -51,13 +51,11 @@ pub ends_get : (w : Walk) (o : Option Replica) → EndsAbsent w o → IsGet w.as
 ends_get w None ends = absurd ends
 ends_get w (Some c) ends = ends.0
 
--- ---- what a step leads to
+-- ---- what a move leads to
 -- the ask that a work goes on to fits its key
-pub next_fits : (setup : SetupView) (cells : List Replica) (held : List ℕ) (old new : Work) (o : Option Answer) (m : Move) (ask : Ask) → IsSetup setup
-    → IsStepped setup cells held old o (Some m) new → m.next ≡ next.Ask ask → FitsItsKey ask
-next_fits setup cells held old new None m ask good stepped is = absurd (none-some m (sym stepped.0))
-next_fits setup cells held old new (Some a) m ask good stepped is =
-    let same : m ≡ move_after setup old.job a held = same_Some _ _ stepped.0 in
-    let asks : (move_after setup old.job a held).next ≡ next.Ask ask = sym (ap (λ (x : Move). x.next) same) ∙ is in
-    asked_fit setup old.job.instance old.job.segment held old.job.aim (old.job.answers ++ a ∷ []) ask good
-    (asked_is setup old.job.instance old.job.aim old.job.segment (old.job.answers ++ a ∷ []) held ask asks)
+pub next_fits : (setup : SetupView) (job : JobView) (a : Answer) (held : List ℕ) (m : Move) (ask : Ask) → IsSetup setup
+    → m ≡ move_after setup job a held → m.next ≡ next.Ask ask → FitsItsKey ask
+next_fits setup job a held m ask good same is =
+    let asks : (move_after setup job a held).next ≡ next.Ask ask = sym (ap (λ (x : Move). x.next) same) ∙ is in
+    asked_fit setup job.instance job.segment held job.aim (job.answers ++ a ∷ []) ask good
+    (asked_is setup job.instance job.aim job.segment (job.answers ++ a ∷ []) held ask asks)

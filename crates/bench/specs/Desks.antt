@@ -50,17 +50,6 @@ pub record IsWork (setup : SetupView) (count : ℕ) (w : Work) : Type 0 where
   pub carries : CarriesAsAsked w.walk
   pub known : WalkKnown setup w.walk
 
--- ---- a step of a work
--- after its walk's step, with this answer if the ask has ended: where it has not, the walk has moved; where it has, the
--- job makes the table's move, and where that is an ask, the job has one answer more
-abbrev pub Goes : Work → Answer → Next → Work → Type 0
-Goes old a (next.Ask ask) new = (new.job ≡ answered old.job a ask) × (new.item ≡ old.item)
-Goes old a (next.End verdict outs) new = Unit {0}
-
-abbrev pub Stepped : SetupView → List Replica → List ℕ → Work → Option Answer → Option Move → Work → Type 0
-Stepped setup cells held old None made new = (made ≡ None) × (new ≡ record { item = old.item; job = old.job; walk = walk_after old.walk cells })
-Stepped setup cells held old (Some a) made new = (made ≡ Some (move_after setup old.job a held)) × Goes old a (move_after setup old.job a held).next new
-
 -- ---- a step of a desk
 -- the work of an instance: its job is the instance's, and its walk is that of the ask that stands
 pub record IsOf (i : ℕ) (w : Work) : Type 0 where

@@ -1,16 +1,17 @@
 //! What one instance has at a bench.
 
-ghost use Rattle.std.specs.Prelude.{◌≡◌, ◌<◌, ◌≤◌, ◌^◌, ℕ, length, IfOk, OnOk, OnErr};
+ghost use Rattle.std.specs.Prelude.{◌≡◌, ◌<◌, ◌≤◌, ◌^◌, ℕ, length, IfOk, OnOk, OnErr, None};
 ghost use Rattle.replica_cell.specs.Walks.{cells_after, replicas};
-ghost use Rattle.bench.specs.Bench.{answer_of, says, stepped};
+ghost use Rattle.bench.specs.Bench.{answer_of, moved, stepped};
+ghost use Rattle.job_core.specs.Jobs.{KnowsServers, MayAnswer};
 ghost use Rattle.rule_table.specs.Setups.{IsSetup};
-ghost use Rattle.bench.specs.Desks.{CellsKnown, IsOf, IsWork, IsWorkIfAny, Agrees, HeldWithin, Stepped as IsStepped, left, shown, shown_work, shown_job, desk_stepped, cells_stepped};
+ghost use Rattle.bench.specs.Desks.{CellsKnown, IsOf, IsWork, IsWorkIfAny, Agrees, HeldWithin, left, shown, shown_work, shown_job, desk_stepped, cells_stepped};
 
 use crate::call::Reply;
 use crate::held::{bytes_of, change};
 use flow_id::Flow;
 use indexmap::IndexMap;
-use job_core::{Answer, Job, Move, Next};
+use job_core::{Answer, Job, Next};
 use replica_cell::Cell;
 use rule_table::Setup;
 use std::alloc::AllocError;
@@ -46,39 +47,38 @@ fn answer_of(said: Stepped) -> Option<Answer>
     }
 }
 
-/// Makes one step of the work's walk, and where its ask ended the job's move, with what is held of its flow. An `Err`
-/// changes nothing but counts of faults.
-pub(crate) fn step_work(
+/// Makes the move of the work's job after this answer to its ask, with what is held of its flow. The room for what may be
+/// held is made first. An `Err` changes nothing.
+fn move_on(
     setup: &Setup,
-    cells: &mut [Cell],
     work: &mut Work,
-    held: &[u8],
-) -> Result<Option<Move>, AllocError>
-    requires few { length cells.old < 2 ^ 32 }
-    requires known { CellsKnown setup.now (replicas cells.old) }
-    requires work { IsWork setup.now (length cells.old) work.old }
-    requires held { length held.now ≤ 14600 }
-    ensures cells { OnOk result (replicas cells.new ≡ cells_after work.old.walk (replicas cells.old)) }
-    ensures stepped { IfOk result (λ made. IsStepped setup.now (replicas cells.old) held.now work.old (answer_of (says (replicas cells.old) (shown_work work.old))) made work.new) }
+    held: &mut IndexMap<Flow, Bytes>,
+    got: Answer,
+) -> Result<Reply, AllocError>
+    requires good { IsSetup setup.now }
+    requires may { MayAnswer setup.now work.old.job.ask got }
+    requires servers { KnowsServers setup.now work.old.job }
+    requires held { HeldWithin held.old.entries }
+    ensures moved { IfOk result (λ r. left r work.new held.new.entries ≡ moved setup.now work.old.job.instance (shown_work work.old) got held.old.entries) }
+    ensures agrees { IfOk result (λ r. r ≡ Reply.Going → IsOf work.old.job.instance work.new) }
     ensures err { OnErr result (work.new ≡ work.old) }
-    ensures err_cells { OnErr result (replicas cells.new ≡ replicas cells.old) }
+    ensures err_held { OnErr result (held.new.entries ≡ held.old.entries) }
 {
-    let before = work.walk;
-    let noted = noted_step(&mut work.walk, cells)?;
-    let Some(got) = answer_of(noted.said) else {
-        return Ok(None);
-    };
-    match work.job.answer(setup, got, held) {
-        Ok(made) => Ok(Some(made)),
-        Err(refused) => {
-            undo_step(&mut work.walk, cells, &before, noted.stored);
-            Err(refused)
+    let flow = work.job.flow();
+    held.reserve(1)?;
+    let made = work.job.answer(setup, got, bytes_of(held, flow))?;
+    change(held, flow, made.held);
+    match made.next {
+        Next::Ask(ask) => {
+            work.walk = start(ask);
+            Ok(Reply::Going)
         }
+        Next::End { verdict, outs } => Ok(Reply::Done { verdict, outs }),
     }
 }
 
-/// Makes one step of the instance's work: the step of its walk, and where the ask ended the job's move. The room for what
-/// may be held is made first. An `Err` changes nothing but counts of faults.
+/// Makes one step of the instance's work: the step of its walk, and where the ask ended the job's move. An `Err` changes
+/// nothing but counts of faults.
 pub(crate) fn go_on(
     setup: &Setup,
     cells: &mut [Cell],
@@ -97,19 +97,25 @@ pub(crate) fn go_on(
     ensures err_held { OnErr result (held.new.entries ≡ held.old.entries) }
     ensures err_cells { OnErr result (replicas cells.new ≡ replicas cells.old) }
 {
-    let flow = work.job.flow();
-    held.reserve(1)?;
-    let Some(made) = step_work(setup, cells, work, bytes_of(held, flow))? else {
+    let before = work.walk;
+    let noted = noted_step(&mut work.walk, cells)?;
+    let Some(got) = answer_of(noted.said) else {
         return Ok(Reply::Going);
     };
-    change(held, flow, made.held);
-    match made.next {
-        Next::Ask(ask) => {
-            work.walk = start(ask);
-            Ok(Reply::Going)
+    match move_on(setup, work, held, got) {
+        Ok(reply) => Ok(reply),
+        Err(refused) => {
+            undo_step(&mut work.walk, cells, &before, noted.stored);
+            Err(refused)
         }
-        Next::End { verdict, outs } => Ok(Reply::Done { verdict, outs }),
     }
+}
+
+/// Lets a work go whose handling has ended.
+fn let_go(work: &mut Option<Work>)
+    ensures { work.new ≡ None }
+{
+    *work = None;
 }
 
 /// Makes one step of the instance's work, if it has one; a work whose handling has ended is dropped. An `Err` changes
@@ -137,7 +143,7 @@ pub(crate) fn step_any(
         Some(some) => {
             let reply = go_on(setup, cells, some, held)?;
             if let Reply::Done { .. } = reply {
-                *work = None;
+                let_go(work);
             }
             Ok(reply)
         }
