@@ -5,6 +5,9 @@ use crate::verdict::VerdictText;
 use job_core::Verdict;
 use std::alloc::AllocError;
 
+/// The room that is made for a line: most lines fit, and a longer one is given more.
+const USUAL_LENGTH: usize = 32;
+
 /// Appends the line of the record with this number, what became of it, and the instance that handled it, if one did. The
 /// one error is want of memory, and then `out` is as before.
 pub fn report_line(
@@ -16,12 +19,12 @@ pub fn report_line(
     ensures line { OnOk result (out.new.items ≡ out.old.items ++ line_text «record» instance verdict.now) }
     ensures refused { OnErr result (out.new.items ≡ out.old.items) }
 {
-    let alloc = *out.allocator();
     let verdict = VerdictText(*verdict);
-    let line = match instance {
-        Some(instance) => format!(in alloc; "{record} {instance} {verdict}\n")?,
-        None => format!(in alloc; "{record} - {verdict}\n")?,
-    };
+    let mut line = String::with_capacity(*out.allocator(), USUAL_LENGTH)?;
+    match instance {
+        Some(instance) => write!(line, "{record} {instance} {verdict}\n")?,
+        None => write!(line, "{record} - {verdict}\n")?,
+    }
     out.extend_from_slice(line.as_bytes())
 }
 
