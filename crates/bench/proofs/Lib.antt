@@ -11,7 +11,9 @@ pub mod Histories
 pub mod Late
 pub mod Once
 pub mod Origins
+pub mod Prepared
 pub mod Reached
+pub mod Readings
 pub mod Sets
 pub mod Shown
 pub mod Steps

@@ -3,5 +3,8 @@ pub mod Calls
 pub mod Desks
 pub mod Forwarding
 pub mod Histories
+pub mod Incoming
+pub mod Inputs
 pub mod JobLaws
 pub mod Laws
+pub mod Prepared

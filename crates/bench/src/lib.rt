@@ -1,10 +1,12 @@
-//! One shard: its cells, a desk for each instance, and what holds of every history of their calls.
+//! One shard: its cells, a desk for each instance, and what holds of every history of their calls. And what comes in: the
+//! inputs of a run, and what is to be done with each record of its trace.
 #![tactic(auto)]
 
 mod bench;
 mod call;
 mod desk;
 mod held;
+pub mod input;
 mod laws;
 
 pub use bench::{Bench, apply};
