@@ -1,3 +1,4 @@
+pub mod Changes
 pub mod Counters
 pub mod Files
 pub mod Shelf
