@@ -1,16 +1,6 @@
-pub mod Done
-pub mod Filled
-pub mod Given
-pub mod Judging
 pub mod Longer
 pub mod Named
 pub mod Outputs
-pub mod Readings
 pub mod Rising
 pub mod Runs
-pub mod Shards
-pub mod ShortOuts
-pub mod Sizes
-pub mod Steps
 pub mod Stops
-pub mod Works

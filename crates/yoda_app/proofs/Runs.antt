@@ -1,16 +1,17 @@
 -- A command's end and its line make its run.
 use Rattle.std.proofs.Common.{◌≡◌, ◌≢◌, ◌⊎◌, ℕ, ◌≤◌, List, [], ◌∷◌, refl, sym, ◌∙◌, ap, subst, inl, inr, arith}
 use Rattle.std.specs.Prelude.{Option, None, Some, Contains, Result, Ok, Err, IfErr, OnOk, codes}
+use Rattle.plain_run.specs.declared.fault.LoadFault.{LoadFault}
+use Rattle.plain_run.specs.declared.fault.LoadFault.TheVariants as fault
+use Rattle.shelf.specs.Changes.{Change, held}
 use Rattle.shelf.specs.Shelf.{Contents, Counts, SameContents, SameOthers, NoneFell}
 use Rattle.shelf.specs.declared.outside.Kind.TheVariants.{Reading, Writing}
-use Rattle.yoda_app.specs.Commands.{Command, Change, held, error_name, IsUntouched, Says, SaysLine, line, read_text, write_text, memory_text, IsDone, IsReadFault, IsWriteFault, IsRefused, judged_status, IsRun}
-use Rattle.yoda_app.specs.Ends.{IsEnd, stop_text, end_status}
-use Rattle.yoda_app.specs.Refusals.{status_of, refusal_text}
+use Rattle.yoda_app.specs.Commands.{Command, error_name, IsUntouched, Says, SaysLine, line, write_text, IsDone, IsInputFault, IsWriteFault, IsRefused, judged_status, IsRun}
+use Rattle.yoda_app.specs.Ends.{IsUnloaded, IsEnd, stop_text, end_status}
+use Rattle.yoda_app.specs.Refusals.{status_of, refusal_text, read_text, memory_text}
 use Rattle.yoda_app.specs.Written.{longer, AddsPart}
-use Rattle.yoda_app.specs.declared.refusal.Refusal.{Refusal}
-use Rattle.yoda_app.specs.declared.refusal.Refusal.TheVariants.{RulesBytes, TraceBytes, TraceRecords, ScriptNotBuilt, Trace, Rules}
 use Rattle.yoda_app.specs.declared.ending.Stop.{Stop}
-use Rattle.yoda_app.specs.declared.ending.Stop.TheVariants.{Memory, Read, Refused, Write}
+use Rattle.yoda_app.specs.declared.ending.Stop.TheVariants.{Memory, Unloaded, Write}
 use Rattle.yoda_app.proofs.Outputs.{AreApart, kept, written_on, stopped_on}
 use Rattle.yoda_app.proofs.Rising.{rose_since, rose_until}
 
@@ -20,22 +21,14 @@ IsElsewhere c old new = (n : List ℕ) → n ≢ error_name → (Contains c.outp
 
 -- the statuses of refusals
 abbrev OfRefusal : ℕ → Type 0
-OfRefusal status = (status ≡ 5) ⊎ (status ≡ 6) ⊎ (status ≡ 8) ⊎ (status ≡ 10)
-
-refusal_status : (f : Refusal) → OfRefusal (status_of f)
-refusal_status (RulesBytes n) = inr (inr (inl refl))
-refusal_status (TraceBytes n) = inr (inr (inl refl))
-refusal_status TraceRecords = inr (inr (inl refl))
-refusal_status ScriptNotBuilt = inr (inr (inr refl))
-refusal_status (Trace fault) = inl refl
-refusal_status (Rules fault) = inr (inl refl)
+OfRefusal status = (status ≡ 5) ⊎ (status ≡ 6) ⊎ (status ≡ 7) ⊎ (status ≡ 8)
 
 -- they are none of the others
-not_of_refusal : (status n : ℕ) → OfRefusal status → status ≡ n → n ≢ 5 → n ≢ 6 → n ≢ 8 → n ≢ 10 → ⊥
+not_of_refusal : (status n : ℕ) → OfRefusal status → status ≡ n → n ≢ 5 → n ≢ 6 → n ≢ 7 → n ≢ 8 → ⊥
 not_of_refusal status n (inl five) same a b c d = a (sym same ∙ five)
 not_of_refusal status n (inr (inl six)) same a b c d = b (sym same ∙ six)
-not_of_refusal status n (inr (inr (inl eight))) same a b c d = c (sym same ∙ eight)
-not_of_refusal status n (inr (inr (inr ten))) same a b c d = d (sym same ∙ ten)
+not_of_refusal status n (inr (inr (inl seven))) same a b c d = c (sym same ∙ seven)
+not_of_refusal status n (inr (inr (inr eight))) same a b c d = d (sym same ∙ eight)
 
 run_done : (c : Command) (s : Change) → IsDone c s → IsElsewhere c s.old s.new → IsRun c s 0
 run_done c s done elsewhere = record {
@@ -50,7 +43,7 @@ run_done c s done elsewhere = record {
   elsewhere = elsewhere;
 }
 
-run_read : (c : Command) (s : Change) (n : List ℕ) → IsReadFault c s n → SaysLine s (read_text n) → IsElsewhere c s.old s.new → IsRun c s 3
+run_read : (c : Command) (s : Change) (n : List ℕ) → IsInputFault c s n → SaysLine s (read_text n) → IsElsewhere c s.old s.new → IsRun c s 3
 run_read c s n fault says elsewhere = record {
   statuses = inr (inl refl);
   done = λ e. absurd (omega (arith, e));
@@ -59,7 +52,7 @@ run_read c s n fault says elsewhere = record {
   refused = λ e. absurd (not_of_refusal 3 3 e refl (λ x. omega (arith, x)) (λ x. omega (arith, x)) (λ x. omega (arith, x)) (λ x. omega (arith, x)));
   no_memory = λ e. absurd (omega (arith, e));
   only = λ told f e. inl refl;
-  complete = λ told quiet. absurd (quiet.inputs n fault.named fault.rose);
+  complete = λ told quiet. absurd (quiet.inputs n fault.fault.named fault.fault.rose);
   elsewhere = elsewhere;
 }
 
@@ -78,7 +71,7 @@ run_write c s n fault says elsewhere = record {
 
 run_memory : (c : Command) (s : Change) → IsUntouched s → SaysLine s memory_text → IsElsewhere c s.old s.new → IsRun c s 9
 run_memory c s untouched says elsewhere = record {
-  statuses = inr (inr (inr (inr (inr (inr (inl refl))))));
+  statuses = inr (inr (inr (inr (inr (inr (inr refl))))));
   done = λ e. absurd (omega (arith, e));
   read_fault = λ e. absurd (omega (arith, e));
   write_fault = λ e. absurd (omega (arith, e));
@@ -89,15 +82,15 @@ run_memory c s untouched says elsewhere = record {
   elsewhere = elsewhere;
 }
 
-all_statuses : (status : ℕ) → OfRefusal status → (status ≡ 0) ⊎ (status ≡ 3) ⊎ (status ≡ 4) ⊎ (status ≡ 5) ⊎ (status ≡ 6) ⊎ (status ≡ 8) ⊎ (status ≡ 9) ⊎ (status ≡ 10)
+all_statuses : (status : ℕ) → OfRefusal status → (status ≡ 0) ⊎ (status ≡ 3) ⊎ (status ≡ 4) ⊎ (status ≡ 5) ⊎ (status ≡ 6) ⊎ (status ≡ 7) ⊎ (status ≡ 8) ⊎ (status ≡ 9)
 all_statuses status (inl five) = inr (inr (inr (inl five)))
 all_statuses status (inr (inl six)) = inr (inr (inr (inr (inl six))))
-all_statuses status (inr (inr (inl eight))) = inr (inr (inr (inr (inr (inl eight)))))
-all_statuses status (inr (inr (inr ten))) = inr (inr (inr (inr (inr (inr (inr ten))))))
+all_statuses status (inr (inr (inl seven))) = inr (inr (inr (inr (inr (inl seven)))))
+all_statuses status (inr (inr (inr eight))) = inr (inr (inr (inr (inr (inr (inl eight))))))
 
-run_refused : (c : Command) (s : Change) (f : Refusal) → IsRefused c s f → SaysLine s (refusal_text f) → IsElsewhere c s.old s.new → IsRun c s (status_of f)
-run_refused c s f refused says elsewhere =
-    let is = refusal_status f in record {
+run_refused : (c : Command) (s : Change) (f : LoadFault) → OfRefusal (status_of f) → IsRefused c s f → SaysLine s (refusal_text f) → IsElsewhere c s.old s.new → IsRun c s (status_of f)
+run_refused c s f is refused says elsewhere =
+    record {
       statuses = all_statuses (status_of f) is;
       done = λ e. absurd (not_of_refusal (status_of f) 0 is e (λ x. omega (arith, x)) (λ x. omega (arith, x)) (λ x. omega (arith, x)) (λ x. omega (arith, x)));
       read_fault = λ e. absurd (not_of_refusal (status_of f) 3 is e (λ x. omega (arith, x)) (λ x. omega (arith, x)) (λ x. omega (arith, x)) (λ x. omega (arith, x)));
@@ -136,6 +129,33 @@ untouched_on old mid last first second n other = second n other ∙ first n othe
 elsewhere_on : (c : Command) (old mid last : Contents) → IsElsewhere c old mid → SameOthers error_name mid last → IsElsewhere c old last
 elsewhere_on c old mid last first second n other out = second n other ∙ first n other out
 
+refused_on : (c : Command) (mid : Contents) (between : Counts) (s : Change) (f : LoadFault) → SameOthers error_name mid s.new
+    → IsRefused c (record s { new = mid; now = between }) f → IsRefused c s f
+refused_on c mid between s f others refused = record { cause = refused.cause; untouched = untouched_on s.old mid s.new refused.untouched others }
+
+-- inputs that were not taken, and the line that says why
+unloaded_of : (c : Command) (mid : Contents) (between : Counts) (s : Change) (f : LoadFault) → IsUnloaded c (record s { new = mid; now = between }) f → SameOthers error_name mid s.new
+    → NoneFell between s.now → SaysLine s (refusal_text f) → IsElsewhere c s.old s.new → IsRun c s (status_of f)
+unloaded_of c mid between s (fault.Read name) first others later says elsewhere =
+    run_read c s name (record {
+      fault = record {
+        named = first.fault.named;
+        rose = rose_until _ _ _ first.fault.rose (later Reading name);
+        not_sure = first.fault.not_sure;
+      };
+      untouched = untouched_on s.old mid s.new first.untouched others;
+    }) says elsewhere
+unloaded_of c mid between s (fault.Limit passed) first others later says elsewhere =
+    run_refused c s (fault.Limit passed) (inr (inr (inr refl))) (refused_on c mid between s (fault.Limit passed) others first) says elsewhere
+unloaded_of c mid between s (fault.Trace f) first others later says elsewhere =
+    run_refused c s (fault.Trace f) (inl refl) (refused_on c mid between s (fault.Trace f) others first) says elsewhere
+unloaded_of c mid between s (fault.Rules f) first others later says elsewhere =
+    run_refused c s (fault.Rules f) (inr (inl refl)) (refused_on c mid between s (fault.Rules f) others first) says elsewhere
+unloaded_of c mid between s (fault.Script f) first others later says elsewhere =
+    run_refused c s (fault.Script f) (inr (inr (inl refl))) (refused_on c mid between s (fault.Script f) others first) says elsewhere
+unloaded_of c mid between s fault.Memory first others later says elsewhere =
+    run_memory c s (untouched_on s.old mid s.new first others) says elsewhere
+
 pub run_of : (c : Command) (mid : Contents) (between : Counts) (s : Change) (end : Result (Unit {0}) Stop) → Finished c mid between s end → IsRun c s (end_status end)
 run_of c mid between s (Ok done) f =
     run_done c s (record {
@@ -147,20 +167,10 @@ run_of c mid between s (Err Memory) f =
     run_memory c s (untouched_on s.old mid s.new (λ n _. f.first n) f.others)
     (says_since _ _ _ _ _ _ _ f.here (f.rising Writing error_name) f.says)
     (elsewhere_on c s.old mid s.new f.left f.others)
-run_of c mid between s (Err (Read name)) f =
-    run_read c s name.now (record {
-      named = f.first.named;
-      rose = rose_until _ _ _ f.first.rose (f.later Reading name.now);
-      not_sure = f.first.not_sure;
-      untouched = untouched_on s.old mid s.new f.first.untouched f.others;
-    }) (says_since _ _ _ _ _ _ _ f.here (f.rising Writing error_name) f.says)
-    (elsewhere_on c s.old mid s.new f.left f.others)
-run_of c mid between s (Err (Refused g text)) f =
+run_of c mid between s (Err (Unloaded g text)) f =
     let S : List ℕ → Type 0 = λ t. SaysLine s t in
-    run_refused c s g (record {
-      cause = f.first.0.cause;
-      untouched = untouched_on s.old mid s.new f.first.0.untouched f.others;
-    }) (subst S f.first.1 (says_since _ _ _ _ _ _ _ f.here (f.rising Writing error_name) f.says))
+    unloaded_of c mid between s g f.first.0 f.others f.later
+    (subst S f.first.1 (says_since _ _ _ _ _ _ _ f.here (f.rising Writing error_name) f.says))
     (elsewhere_on c s.old mid s.new f.left f.others)
 run_of c mid between s (Err (Write name)) f =
     run_write c s name.now (record {

@@ -1,47 +1,17 @@
 -- What stops a command, seen from its beginning.
-use Rattle.std.proofs.Common.{◌≡◌, ◌≢◌, ℕ, List, [], ◌∷◌, refl, sym, ◌∙◌, ap, subst, inl, inr, arith}
-use Rattle.std.specs.Prelude.{Contains, Option, None, Some, Result, Ok, Err, IfErr, OnErr, OnOk}
+use Rattle.std.proofs.Common.{◌≡◌, ◌≢◌, ℕ, List, [], ◌∷◌, refl, sym, ◌∙◌, subst, inl, inr, arith}
+use Rattle.std.specs.Prelude.{Contains, Option, None, Result, Ok, Err, IfErr, OnErr, OnOk}
 use Rattle.common.specs.Causes.{Rose}
-use Rattle.shelf.specs.Shelf.{Contents, Counts, SameContents, SameOthers, NoneFell, StaysSure}
-use Rattle.shelf.specs.declared.outside.Kind.TheVariants.{Reading, Writing}
-use Rattle.yoda_app.specs.Commands.{Command, Change, held, AreTold, AllWritten, StoppedAt, IsReadFault}
-use Rattle.yoda_app.specs.Ends.{IsStop, IsEnd, StopsReading, StopsWriting, StopsAmong, TellsRefusal}
-use Rattle.yoda_app.specs.Refusals.{refusal_text}
-use Rattle.yoda_app.specs.declared.refusal.Refusal.{Refusal}
+use Rattle.shelf.specs.Changes.{Change, held, AreTold}
+use Rattle.shelf.specs.Shelf.{Contents, Counts, SameContents, SameOthers, NoneFell}
+use Rattle.shelf.specs.declared.outside.Kind.TheVariants.{Writing}
+use Rattle.yoda_app.specs.Commands.{Command, AllWritten, StoppedAt}
+use Rattle.yoda_app.specs.Ends.{IsEnd, StopsWriting, StopsAmong}
 use Rattle.yoda_app.specs.Written.{written, HoldsPart}
 use Rattle.yoda_app.specs.declared.ending.Stop.{Stop}
-use Rattle.yoda_app.specs.declared.ending.Stop.TheVariants.{Memory, Read, Refused, Write}
+use Rattle.yoda_app.specs.declared.ending.Stop.TheVariants.{Memory, Unloaded, Write}
 use Rattle.yoda_app.proofs.Outputs.{written_since, stopped_since}
 use Rattle.yoda_app.proofs.Rising.{rose_since}
-
--- the first part of a change: no content is changed, no count falls, and each sure name stays sure
-pub record IsQuietStart (old mid : Contents) (before between : Counts) (sure still : List ℕ → Type 0) : Type 0 where
-  pub same : SameContents old mid
-  pub counts : NoneFell before between
-  pub stays : StaysSure sure still
-
-read_fault : (c : Command) (s t : Change) (name n : List ℕ) → n ≡ name → Contains c.inputs name → IsQuietStart s.old t.old s.before t.before s.sure t.sure → s.new ≡ t.new → s.now ≡ t.now
-    → SameContents t.old t.new → Rose (t.before Reading name) (t.now Reading name) → (t.sure name → ⊥) → IsReadFault c s n
-read_fault c s t name n is named start same_new same_now kept rose not_sure =
-    let P : List ℕ → Type 0 = λ m. IsReadFault c s m in
-    subst P (sym is) (record {
-      named = named;
-      rose = (let Q : Counts → Type 0 = λ k. Rose (s.before Reading name) (k Reading name) in subst Q (sym same_now) (rose_since _ _ _ (start.counts Reading name) rose));
-      not_sure = λ sure. not_sure (start.stays name sure);
-      untouched = λ m other. ap (λ (k : Contents). k m) same_new ∙ kept m ∙ start.same m;
-    })
-
--- a reading that stops after a quiet start
-pub stops_reading : (c : Command) (old mid new : Contents) (before between now : Counts) (sure still : List ℕ → Type 0) (name : List ℕ) (e : Stop)
-    → Contains c.inputs name → IsQuietStart old mid before between sure still → SameContents mid new
-    → StopsReading (record { old = mid; new = new; before = between; now = now; sure = still }) name e
-    → IsStop c (record { old = old; new = new; before = before; now = now; sure = sure }) e
-stops_reading c old mid new before between now sure still name Memory named start kept stop = λ n. kept n ∙ start.same n
-stops_reading c old mid new before between now sure still name (Read n) named start kept stop =
-    read_fault c (record { old = old; new = new; before = before; now = now; sure = sure }) (record { old = mid; new = new; before = between; now = now; sure = still })
-    name n.now stop.0 named start refl refl kept stop.1 stop.2
-stops_reading c old mid new before between now sure still name (Refused f text) named start kept stop = absurd stop
-stops_reading c old mid new before between now sure still name (Write n) named start kept stop = absurd stop
 
 -- the writing of a second output that stops
 second_stop : (old mid new : Contents) (before between now : Counts) (sure still : List ℕ → Type 0) (first second a b : List ℕ) (e : Stop)
@@ -49,8 +19,7 @@ second_stop : (old mid new : Contents) (before between now : Counts) (sure still
     → StopsWriting (record { old = mid; new = new; before = between; now = now; sure = still }) second e → HoldsPart second (mid second) (new second) b
     → StopsAmong (record { old = old; new = new; before = before; now = now; sure = sure }) (first ∷ second ∷ []) (a ∷ b ∷ []) e
 second_stop old mid new before between now sure still first second a b Memory differ all others others2 counts stop part = stop
-second_stop old mid new before between now sure still first second a b (Read n) differ all others others2 counts stop part = stop
-second_stop old mid new before between now sure still first second a b (Refused f text) differ all others others2 counts stop part = stop
+second_stop old mid new before between now sure still first second a b (Unloaded f text) differ all others others2 counts stop part = stop
 second_stop old mid new before between now sure still first second a b (Write n) differ all others others2 counts stop part =
     let P : List ℕ → Type 0 = λ m. Contains (first ∷ second ∷ []) m × Rose (before Writing m) (now Writing m) × StoppedAt m (first ∷ second ∷ []) (a ∷ b ∷ []) old new in
     let before_second : mid second ≡ old second = others second (λ same. differ (sym same)) in
@@ -75,8 +44,7 @@ ends c old mid new before between now sure still texts (Ok u) accepted gives sam
   outputs = λ told. (texts, gives told, written_since c.outputs texts old mid new same all);
 }
 ends c old mid new before between now sure still texts (Err Memory) accepted gives same counts all stop = absurd stop
-ends c old mid new before between now sure still texts (Err (Read n)) accepted gives same counts all stop = absurd stop
-ends c old mid new before between now sure still texts (Err (Refused f text)) accepted gives same counts all stop = absurd stop
+ends c old mid new before between now sure still texts (Err (Unloaded f text)) accepted gives same counts all stop = absurd stop
 ends c old mid new before between now sure still texts (Err (Write n)) accepted gives same counts all stop = record {
   named = stop.0;
   rose = rose_since _ _ _ (counts Writing n.now) stop.1;
@@ -84,19 +52,10 @@ ends c old mid new before between now sure still texts (Err (Write n)) accepted 
   outputs = λ told. (texts, gives told, stopped_since n.now c.outputs texts old mid new same stop.2);
 }
 
--- a refusal that was told
-pub tells : (c : Command) (s : Change) (f : Refusal) (e : Stop) → (AreTold s.old c.inputs → c.refusal (held s.old) ≡ Some f) → SameContents s.old s.new → TellsRefusal f e → IsStop c s e
-tells c s f Memory cause same told = same
-tells c s f (Read n) cause same told = absurd told
-tells c s f (Refused g text) cause same told =
-    (record { cause = λ is. cause is ∙ ap Some (sym told.0); untouched = λ n other. same n }, told.1 ∙ ap refusal_text (sym told.0))
-tells c s f (Write n) cause same told = absurd told
-
 -- the writing of an only output that stops
 only_stop : (s : Change) (name text : List ℕ) (e : Stop) → StopsWriting s name e → HoldsPart name (s.old name) (s.new name) text → StopsAmong s (name ∷ []) (text ∷ []) e
 only_stop s name text Memory stop part = stop
-only_stop s name text (Read n) stop part = stop
-only_stop s name text (Refused f t) stop part = stop
+only_stop s name text (Unloaded f t) stop part = stop
 only_stop s name text (Write n) stop part =
     let P : List ℕ → Type 0 = λ m. Contains (name ∷ []) m × Rose (s.before Writing m) (s.now Writing m) × StoppedAt m (name ∷ []) (text ∷ []) s.old s.new in
     subst P (sym stop.0) ((0, omega arith, refl), stop.1, inl (refl, part, tt))

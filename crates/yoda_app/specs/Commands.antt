@@ -1,13 +1,15 @@
 -- What a command may answer. The frame is the same for each command: it reads its inputs in order, judges them, makes
 -- its texts, and writes its outputs in order. Every exit status has its cause here. Names and texts are lists of bytes.
-use Rattle.std.specs.Prelude.{◌≡◌, ◌≢◌, ◌⊎◌, ◌↔◌, ℕ, Bool, false, List, [], ◌∷◌, ◌++◌, Option, None, Some, IsSome, Contains, unwrap_or, codes}
+use Rattle.std.specs.Prelude.{◌≡◌, ◌≢◌, ◌⊎◌, ◌↔◌, ℕ, Bool, false, List, [], ◌∷◌, ◌++◌, Option, None, Some, Contains, codes}
 use Rattle.std.specs.List.{AllByRecursion}
 use Rattle.common.specs.Causes.{Rose}
-use Rattle.shelf.specs.Shelf.{Contents, Counts, SameOthers}
+use Rattle.plain_run.specs.Loading.{IsReadFault}
+use Rattle.plain_run.specs.declared.fault.LoadFault.{LoadFault}
+use Rattle.shelf.specs.Changes.{Change, held, AreTold}
+use Rattle.shelf.specs.Shelf.{Contents, SameOthers}
 use Rattle.shelf.specs.declared.outside.Kind.TheVariants.{Reading, Writing}
-use Rattle.yoda_app.specs.Refusals.{status_of, refusal_text}
+use Rattle.yoda_app.specs.Refusals.{status_of, refusal_text, read_text, memory_text}
 use Rattle.yoda_app.specs.Written.{longer, AddsPart, written, HoldsPart}
-use Rattle.yoda_app.specs.declared.refusal.Refusal.{Refusal}
 
 -- a command, by the names that its words give
 pub record Command : Type 1 where
@@ -15,31 +17,9 @@ pub record Command : Type 1 where
   pub inputs : List (List ℕ)
   pub outputs : List (List ℕ)
   -- by what each name holds: why it is refused, if it is
-  pub refusal : (List ℕ → List ℕ) → Option Refusal
+  pub refusal : (List ℕ → List ℕ) → Option LoadFault
   -- .. and whether these are the texts that it writes, one for each output
   pub Gives : (List ℕ → List ℕ) → List (List ℕ) → Type 0
-
--- a shelf before a command and after it
-pub record Change : Type 1 where
-  pub old : Contents
-  pub new : Contents
-  -- the counts of faults
-  pub before : Counts
-  pub now : Counts
-  -- the names that were sure before it
-  pub sure : List ℕ → Type 0
-
--- the change from one state of a shelf to another, by the shelf's three meanings
-abbrev pub change : {S : Type 0} → (S → Contents) → (S → Counts) → (S → List ℕ → Type 0) → S → S → Change
-change content faults sure s t = record { old = content s; new = content t; before = faults s; now = faults t; sure = sure s }
-
--- what a name holds, where it is told
-abbrev pub held : Contents → List ℕ → List ℕ
-held content name = unwrap_or (content name) []
-
--- it is told what each of these names holds
-abbrev pub AreTold : Contents → List (List ℕ) → Type 0
-AreTold content names = AllByRecursion (λ n. IsSome (content n)) names
 
 -- standard error
 abbrev pub error_name : List ℕ
@@ -65,14 +45,8 @@ SaysLine s text = Says (s.old error_name) (s.new error_name) (s.before Writing e
 abbrev pub usage_text : List ℕ
 usage_text = codes "usage: plain RULES TRACE SCRIPT OUT REPORT, run RULES TRACE SCRIPT OUT REPORT JOURNAL, drive FLOWS BYTES NUMBER, dump TRACE"
 
-abbrev pub read_text : List ℕ → List ℕ
-read_text name = codes "read fault: " ++ name
-
 abbrev pub write_text : List ℕ → List ℕ
 write_text name = codes "write fault: " ++ name
-
-abbrev pub memory_text : List ℕ
-memory_text = codes "no memory"
 
 -- each output was started and holds its text
 abbrev pub AllWritten : List (List ℕ) → List (List ℕ) → Contents → Contents → Type 0
@@ -97,10 +71,8 @@ pub record IsDone (c : Command) (s : Change) : Type 0 where
   pub outputs : AreTold s.old c.inputs → (texts : List (List ℕ)) × c.Gives (held s.old) texts × AllWritten c.outputs texts s.old s.new
 
 -- this input, which was not sure, had a fault, and no output was changed
-pub record IsReadFault (c : Command) (s : Change) (name : List ℕ) : Type 0 where
-  pub named : Contains c.inputs name
-  pub rose : Rose (s.before Reading name) (s.now Reading name)
-  pub not_sure : s.sure name → ⊥
+pub record IsInputFault (c : Command) (s : Change) (name : List ℕ) : Type 0 where
+  pub fault : IsReadFault c.inputs s name
   pub untouched : IsUntouched s
 
 -- this output had a fault, and nothing was refused before
@@ -111,7 +83,7 @@ pub record IsWriteFault (c : Command) (s : Change) (name : List ℕ) : Type 0 wh
   pub outputs : AreTold s.old c.inputs → (texts : List (List ℕ)) × c.Gives (held s.old) texts × StoppedAt name c.outputs texts s.old s.new
 
 -- this is why the command is refused, and no output was changed
-pub record IsRefused (c : Command) (s : Change) (f : Refusal) : Type 0 where
+pub record IsRefused (c : Command) (s : Change) (f : LoadFault) : Type 0 where
   pub cause : AreTold s.old c.inputs → c.refusal (held s.old) ≡ Some f
   pub untouched : IsUntouched s
 
@@ -121,21 +93,21 @@ pub record IsQuiet (c : Command) (s : Change) : Type 0 where
   pub outputs : (n : List ℕ) → Contains c.outputs n → Rose (s.before Writing n) (s.now Writing n) → ⊥
 
 -- the status that a judgement gives
-abbrev pub judged_status : Option Refusal → ℕ
+abbrev pub judged_status : Option LoadFault → ℕ
 judged_status None = 0
 judged_status (Some f) = status_of f
 
 -- what a command with right words answers and leaves. Status 9, want of memory, may come in place of each status but 4.
 pub record IsRun (c : Command) (s : Change) (status : ℕ) : Type 0 where
   pub statuses :
-      (status ≡ 0) ⊎ (status ≡ 3) ⊎ (status ≡ 4) ⊎ (status ≡ 5) ⊎ (status ≡ 6) ⊎ (status ≡ 8) ⊎ (status ≡ 9) ⊎ (status ≡ 10)
+      (status ≡ 0) ⊎ (status ≡ 3) ⊎ (status ≡ 4) ⊎ (status ≡ 5) ⊎ (status ≡ 6) ⊎ (status ≡ 7) ⊎ (status ≡ 8) ⊎ (status ≡ 9)
   pub done : status ≡ 0 → IsDone c s
-  pub read_fault : status ≡ 3 → (n : List ℕ) × IsReadFault c s n × SaysLine s (read_text n)
+  pub read_fault : status ≡ 3 → (n : List ℕ) × IsInputFault c s n × SaysLine s (read_text n)
   pub write_fault : status ≡ 4 → (n : List ℕ) × IsWriteFault c s n × SaysLine s (write_text n)
-  pub refused : (status ≡ 5) ⊎ (status ≡ 6) ⊎ (status ≡ 8) ⊎ (status ≡ 10) → (f : Refusal) × (status ≡ status_of f) × IsRefused c s f × SaysLine s (refusal_text f)
+  pub refused : (status ≡ 5) ⊎ (status ≡ 6) ⊎ (status ≡ 7) ⊎ (status ≡ 8) → (f : LoadFault) × (status ≡ status_of f) × IsRefused c s f × SaysLine s (refusal_text f)
   pub no_memory : status ≡ 9 → IsUntouched s × SaysLine s memory_text
   -- where it is refused, nothing else comes but a fault of reading before, or want of memory
-  pub only : AreTold s.old c.inputs → (f : Refusal) → c.refusal (held s.old) ≡ Some f → (status ≡ 3) ⊎ (status ≡ 9) ⊎ (status ≡ status_of f)
+  pub only : AreTold s.old c.inputs → (f : LoadFault) → c.refusal (held s.old) ≡ Some f → (status ≡ 3) ⊎ (status ≡ 9) ⊎ (status ≡ status_of f)
   -- where nothing failed, the status is the one that the judgement gives
   pub complete : AreTold s.old c.inputs → IsQuiet c s → (status ≡ 9) ⊎ (status ≡ judged_status (c.refusal (held s.old)))
   -- but for the outputs and standard error no content was changed

@@ -1,8 +1,8 @@
 -- The command `dump`: a line for each frame of a trace goes to standard output.
 use Rattle.std.specs.Prelude.{◌≡◌, ℕ, List, [], ◌∷◌, codes}
+use Rattle.plain_run.specs.Judgement.{trace_refusal}
 use Rattle.yoda_app.specs.Commands.{Command}
 use Rattle.yoda_app.specs.Dumps.{dump_text}
-use Rattle.yoda_app.specs.Judgement.{trace_refusal}
 use Rattle.yoda_app.specs.Words.{word}
 
 -- the command over this name

@@ -2,12 +2,12 @@
 use Rattle.std.specs.Prelude.{ℕ, ◌+◌, ◌/◌, ◌%◌, Bool, ◌==◌, if◌then◌else◌, List, [], ◌∷◌, ◌++◌, length, Result, Ok, Err, codes}
 use Rattle.std.specs.Fmt.{decimal}
 use Rattle.common.specs.Text.{end_text}
+use Rattle.bench.specs.Incoming.{incoming}
 use Rattle.pcap_file.specs.declared.capture.Frame.{Frame}
 use Rattle.pcap_file.specs.Frames.{capture_of}
 use Rattle.job_core.specs.declared.verdict.Verdict.{Verdict}
 use Rattle.report_text.specs.Verdicts.{verdict_text}
 use Rattle.tcp_segment.specs.declared.segment.Segment.{Segment}
-use Rattle.yoda_app.specs.Incoming.{incoming}
 
 -- the letter of a flag, where it is set
 abbrev pub letter : Bool → List ℕ → List ℕ

@@ -2,16 +2,9 @@ pub mod Commands
 pub mod DumpCommand
 pub mod Dumps
 pub mod Ends
-pub mod Fold
-pub mod Handling
-pub mod Incoming
-pub mod Judgement
-pub mod Laws
 pub mod Outs
 pub mod Plain
-pub mod Prepared
 pub mod Refusals
 pub mod Reports
-pub mod Whole
 pub mod Words
 pub mod Written

@@ -1,33 +1,25 @@
--- The capture of what is sent: for each segment a record with the time of the record that it answers.
-use Rattle.std.specs.Prelude.{ℕ, ◌≤◌, List, [], ◌∷◌, ◌++◌, length}
-use Rattle.std.specs.List.{AllByRecursion, flat_map}
-use Rattle.bench.specs.declared.call.Reply.{Reply}
-use Rattle.bench.specs.declared.call.Reply.TheVariants as reply
+-- The capture of what is sent: for each segment a record with the time of the record that it was sent for.
+use Rattle.std.specs.Prelude.{ℕ, List, [], ◌++◌, map, slice_get}
+use Rattle.std.specs.List.{flat_map}
+use Rattle.std.specs.Option.{option_map_or}
 use Rattle.pcap_file.specs.declared.capture.Frame.{Frame}
 use Rattle.pcap_file.specs.Written.{header_bytes, record_bytes}
+use Rattle.tcp_segment.specs.Written.{packet_bytes}
 use Rattle.tcp_segment.specs.declared.segment.Segment.{Segment}
-use Rattle.tcp_segment.specs.Written.{packet_bytes, written_length}
-use Rattle.yoda_app.specs.Fold.{Step}
+use Rattle.yoda_app.specs.declared.times.Time.{Time}
 
--- the segment fits a packet
-abbrev pub IsShort : Segment → Type 0
-IsShort out = written_length out.head (length out.body) ≤ 65515
+-- when each of these frames was taken
+abbrev pub times_of : List Frame → List Time
+times_of frames = map (λ frame. record { seconds = frame.seconds; micros = frame.micros }) frames
 
--- each segment that a reply names fits a packet
-abbrev pub IsShortReply : Reply → Type 0
-IsShortReply (reply.Done verdict outs) = AllByRecursion IsShort outs
-IsShortReply reply.Going = Unit {0}
-IsShortReply reply.Idle = Unit {0}
-IsShortReply reply.Noted = Unit {0}
+-- the record of a segment with the time of the record of this number, where records have these times
+abbrev pub sent_record : List Time → ℕ × Segment → List ℕ
+sent_record times out = option_map_or (λ time. record_bytes time.seconds time.micros (packet_bytes out.1)) (slice_get times out.0) []
 
--- the records of what is sent for a frame
-abbrev pub sent_for : Frame → List Segment → List ℕ
-sent_for frame outs = flat_map (λ out. record_bytes frame.seconds frame.micros (packet_bytes out)) outs
+-- the records of what is sent, in their order
+abbrev pub sent_records : List Time → List (ℕ × Segment) → List ℕ
+sent_records times outs = flat_map (sent_record times) outs
 
--- the records of what is sent for these frames, in their order
-abbrev pub all_sent : List Frame → List Step → List ℕ
-all_sent (frame ∷ frames) (step ∷ steps) = sent_for frame step.outs ++ all_sent frames steps
-all_sent _ _ = []
-
-abbrev pub outs_text : List Frame → List Step → List ℕ
-outs_text frames steps = header_bytes ++ all_sent frames steps
+-- the capture of what is sent for these frames, each segment with the number of its frame
+abbrev pub outs_text : List Frame → List (ℕ × Segment) → List ℕ
+outs_text frames outs = header_bytes ++ sent_records (times_of frames) outs

@@ -2,22 +2,24 @@
 -- record is written.
 use Rattle.std.specs.Prelude.{◌≡◌, ℕ, List, [], ◌∷◌, IfOk}
 use Rattle.std.specs.Result.{result_err}
+use Rattle.bench.specs.declared.input.inputs.Inputs.{Inputs}
+use Rattle.bench.specs.declared.input.line.Line.{Line}
 use Rattle.pcap_file.specs.Frames.{capture_of}
-use Rattle.rule_table.specs.Setups.{SetupView}
+use Rattle.plain_run.specs.Fold.{IsRun}
+use Rattle.plain_run.specs.Judgement.{judged}
+use Rattle.tcp_segment.specs.declared.segment.Segment.{Segment}
 use Rattle.yoda_app.specs.Commands.{Command}
-use Rattle.yoda_app.specs.Fold.{run}
-use Rattle.yoda_app.specs.Judgement.{judged}
 use Rattle.yoda_app.specs.Outs.{outs_text}
 use Rattle.yoda_app.specs.Reports.{report_text}
 use Rattle.yoda_app.specs.Words.{word}
 use Rattle.yoda_app.specs.declared.words.PlainNames.{PlainNames}
 
--- what is written: the capture of what is sent, and the report
-abbrev pub plain_texts : SetupView → List ℕ → List (List ℕ)
-plain_texts setup trace =
-    let frames = (capture_of trace).frames in
-    let steps = run setup trace frames in
-    outs_text frames steps ∷ report_text steps ∷ []
+-- these are the texts of a run: the capture of what is sent in it, and its report
+pub record IsPlain (inputs : Inputs) (texts : List (List ℕ)) : Type 0 where
+  pub lines : List Line
+  pub outs : List (ℕ × Segment)
+  pub run : IsRun inputs lines outs
+  pub are : texts ≡ outs_text (capture_of inputs.trace).frames outs ∷ report_text lines outs ∷ []
 
 -- the five names
 pub record Paths : Type 0 where
@@ -33,7 +35,7 @@ plain_over p = record {
   inputs = p.rules ∷ p.trace ∷ p.script ∷ [];
   outputs = p.out ∷ p.report ∷ [];
   refusal = λ holds. result_err (judged (holds p.rules) (holds p.trace) (holds p.script));
-  Gives = λ holds texts. IfOk (judged (holds p.rules) (holds p.trace) (holds p.script)) (λ setup. texts ≡ plain_texts setup (holds p.trace));
+  Gives = λ holds texts. IfOk (judged (holds p.rules) (holds p.trace) (holds p.script)) (λ inputs. IsPlain inputs texts);
 }
 
 -- the names that the command is given

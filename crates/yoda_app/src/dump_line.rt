@@ -1,11 +1,10 @@
 // One line of a dump.
 ghost use Rattle.std.specs.Prelude.{◌≡◌, ◌≤◌, ◌+◌, ◌++◌, ◌==◌, OnOk, length};
 ghost use Rattle.std.specs.String.{string_bytes};
+ghost use Rattle.bench.specs.Incoming.{incoming, segment_of};
 ghost use Rattle.yoda_app.specs.Dumps.{letter, flags_text, ends_text, numbers_text, segment_line, dump_line};
-ghost use Rattle.yoda_app.specs.Incoming.{incoming, segment_of};
 
-use crate::incoming::Incoming;
-use crate::trace::incoming;
+use bench::input::{Incoming, incoming_of};
 use common::{Address, Endpoint};
 use pcap_file::Frame;
 use report_text::VerdictText;
@@ -77,7 +76,7 @@ pub fn add_line(
     requires { frame.now.at + frame.now.kept ≤ length trace.now }
     ensures { OnOk result (string_bytes text.new ≡ string_bytes text.old ++ dump_line number (incoming trace.now frame.now)) }
 {
-    match incoming(trace, frame) {
+    match incoming_of(trace, frame) {
         Ok(incoming) => add_segment(text, number, &incoming),
         Err(verdict) => {
             let verdict = VerdictText(verdict);

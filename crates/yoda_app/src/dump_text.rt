@@ -5,7 +5,7 @@ ghost use Rattle.pcap_file.specs.Frames.{capture_of, left_of};
 ghost use Rattle.yoda_app.specs.Dumps.{dump_lines, dump_text};
 
 use crate::dump_line::add_line;
-use crate::trace::{TRACE_BYTES, TRACE_RECORDS};
+use bench::input::{TRACE_BYTES, TRACE_RECORDS};
 use pcap_file::Reader;
 use std::alloc::{AllocError, Global};
 

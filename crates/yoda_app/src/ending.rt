@@ -1,15 +1,17 @@
 // How a command ends: its exit status, and its line on standard error.
-ghost use Rattle.std.specs.Prelude.{◌≡◌, ◌++◌, OnOk, OnErr, IfErr};
+ghost use Rattle.std.specs.Prelude.{◌≡◌, ◌≢◌, ◌++◌, OnOk, OnErr, IfErr};
 ghost use Rattle.common.specs.Causes.{Rose};
 ghost use Rattle.shelf.specs.declared.outside.Kind.TheVariants.{Writing};
 ghost use Rattle.shelf.specs.Shelf.{SameContents, SameOthers, NoneFell, StaysSure};
-ghost use Rattle.yoda_app.specs.Commands.{Says, line, usage_text, memory_text, error_name};
-ghost use Rattle.yoda_app.specs.Ends.{stop_status, stop_text, end_status, TellsRefusal};
+ghost use Rattle.yoda_app.specs.Commands.{Says, line, usage_text, error_name};
+ghost use Rattle.yoda_app.specs.Ends.{stop_status, stop_text, end_status, Tells};
+ghost use Rattle.yoda_app.specs.Refusals.{memory_text};
 ghost use Rattle.yoda_app.specs.Written.{longer, AddsPart};
 ghost use Rattle.yoda_app.specs.declared.ending.Stop.TheVariants.{Memory};
 
-use crate::refusal::Refusal;
+use crate::fault_text::{FaultText, status_of};
 use crate::writing::append_all;
+use plain_run::LoadFault;
 use shelf::{Failed, Shelf};
 use std::alloc::{AllocError, Global};
 
@@ -18,10 +20,8 @@ use std::alloc::{AllocError, Global};
 pub enum Stop<'a> {
     /// Memory was refused.
     Memory,
-    /// The input of this name could not be read.
-    Read(&'a str),
-    /// The inputs are refused, with the text that says why.
-    Refused(Refusal, String),
+    /// The inputs were not taken, with the text that says why.
+    Unloaded(LoadFault, String),
     /// The output of this name could not be written.
     Write(&'a str),
 }
@@ -36,23 +36,24 @@ impl From<AllocError> for Stop<'_> {
 
 impl Stop<'_> {
     fn status(&self) -> u8
-        ensures { result ≡ stop_status self.now }
+        ensures status { result ≡ stop_status self.now }
+        ensures other { result ≢ 2 }
     {
         match self {
             Stop::Memory => 9,
-            Stop::Read(_) => 3,
-            Stop::Refused(refusal, _) => refusal.status(),
+            Stop::Unloaded(fault, _) => status_of(fault),
             Stop::Write(_) => 4,
         }
     }
 }
 
-/// What tells a refusal; where there is no memory for its text, that is what stops the command.
-pub fn refuse<'a>(alloc: Global, refusal: Refusal) -> Stop<'a>
-    ensures { TellsRefusal refusal result }
+/// What tells why the inputs were not taken; where there is no memory for its text, that is what stops the command.
+pub fn stop_of<'a>(alloc: Global, fault: LoadFault) -> Stop<'a>
+    ensures { Tells fault result }
 {
-    match format!(in alloc; "{refusal}") {
-        Ok(text) => Stop::Refused(refusal, text),
+    let line = FaultText(&fault);
+    match format!(in alloc; "{line}") {
+        Ok(text) => Stop::Unloaded(fault, text),
         Err(_) => Stop::Memory,
     }
 }
@@ -97,8 +98,7 @@ fn say_stop<H: Shelf>(shelf: &mut H, stop: &Stop<'_>)
 {
     match stop {
         Stop::Memory => say(shelf, "yoda: no memory", ""),
-        Stop::Read(name) => say(shelf, "yoda: read fault: ", name),
-        Stop::Refused(_, text) => say(shelf, "yoda: ", text.as_str()),
+        Stop::Unloaded(_, text) => say(shelf, "yoda: ", text.as_str()),
         Stop::Write(name) => say(shelf, "yoda: write fault: ", name),
     }
 }
@@ -107,6 +107,8 @@ fn say_stop<H: Shelf>(shelf: &mut H, stop: &Stop<'_>)
 /// else is changed.
 pub fn finish<H: Shelf>(shelf: &mut H, end: &Result<(), Stop<'_>>) -> u8
     ensures status { result ≡ end_status end.now }
+    // It is not that of wrong words.
+    ensures other { result ≢ 2 }
     ensures says { IfErr end.now (λ stop. Says (H.content shelf.old error_name) (H.content shelf.new error_name) (H.faults shelf.old Writing error_name) (H.faults shelf.new Writing error_name) (line (stop_text stop))) }
     ensures silent { OnOk end.now (SameContents (H.content shelf.old) (H.content shelf.new)) }
     ensures others { SameOthers error_name (H.content shelf.old) (H.content shelf.new) }

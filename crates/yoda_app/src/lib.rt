@@ -4,39 +4,32 @@
 //! writes its outputs; the answer is the exit status, and for each status other than 0 a line goes to standard error.
 //! `specs/Commands.antt` says for all commands what each status means and what it leaves; `specs/Plain.antt` and
 //! `specs/DumpCommand.antt` say what the two commands judge and write.
-//! `specs/Laws.antt` says what holds of the records of every trace.
 #![tactic(auto)]
 
 ghost use Rattle.std.specs.Prelude.{◌≡◌, ◌||◌, true};
+ghost use Rattle.shelf.specs.Changes.{change};
 ghost use Rattle.shelf.specs.Shelf.{NoneFell, StaysSure};
-ghost use Rattle.yoda_app.specs.Commands.{change, IsRun, IsUsage};
+ghost use Rattle.yoda_app.specs.Commands.{IsRun, IsUsage};
 ghost use Rattle.yoda_app.specs.DumpCommand.{dump_command};
 ghost use Rattle.yoda_app.specs.Plain.{plain_command};
 ghost use Rattle.yoda_app.specs.Words.{texts, are_plain, are_dump};
 
-mod benches;
 mod dump;
 mod dump_line;
 mod dump_text;
 mod ending;
-mod handling;
-mod incoming;
-mod inputs;
-mod judgement;
-mod laws;
+mod fault_text;
+mod output;
+mod outs_text;
 mod plain;
-mod preparing;
-mod reading;
-mod refusal;
-mod texts;
-mod trace;
+mod report;
+mod times;
 mod words;
 mod writing;
 
 use crate::dump::dump;
 pub use crate::ending::refuse_memory;
 use crate::ending::{finish, refuse_words};
-pub use crate::laws::plain_laws;
 use crate::plain::plain;
 use crate::words::{dump_name, plain_names};
 use shelf::Shelf;

@@ -1,44 +1,68 @@
 // The command `plain`.
-ghost use Rattle.std.specs.Prelude.{◌≡◌, ◌≢◌, ◌<◌, ℕ, List, [], ◌∷◌, IfOk, IfErr, OnOk, None};
+ghost use Rattle.std.specs.Prelude.{◌≡◌, ◌≢◌, ◌*◌, ℕ, List, [], ◌∷◌, IfOk, IfErr, OnOk, None, Ok, length};
+ghost use Rattle.std.specs.List.{AllByRecursion};
+ghost use Rattle.bench.specs.Inputs.{IsInputs};
+ghost use Rattle.plain_run.specs.Fold.{IsRun};
+ghost use Rattle.plain_run.specs.Judgement.{judged};
+ghost use Rattle.plain_run.specs.Outs.{IsSent};
+ghost use Rattle.shelf.specs.Changes.{change, held, AreTold};
 ghost use Rattle.shelf.specs.Shelf.{SameContents, NoneFell, StaysSure};
-ghost use Rattle.yoda_app.specs.Commands.{change, held, AreTold, AllWritten};
+ghost use Rattle.yoda_app.specs.Commands.{AllWritten};
 ghost use Rattle.yoda_app.specs.Ends.{IsStop, IsEnd, StopsAmong};
-ghost use Rattle.yoda_app.specs.Plain.{plain_of, plain_texts};
-ghost use Rattle.yoda_app.specs.Whole.{IsWhole, IsWithin};
+ghost use Rattle.yoda_app.specs.Plain.{plain_of, IsPlain};
 
-use crate::ending::{Stop, refuse};
-use crate::inputs::{read_input, write_output};
-use crate::judgement::{Inputs, RULES_BYTES, SCRIPT_BYTES, Unfit, judge};
-use crate::texts::{Texts, plain_texts};
-use crate::trace::TRACE_BYTES;
-use crate::words::PlainNames;
+use crate::ending::{Stop, stop_of};
+use crate::output::write_output;
+use crate::outs_text::outs_text;
+use crate::report::report_text;
+use crate::words::{PlainNames, input_names};
+use plain_run::{Inputs, load};
 use shelf::Shelf;
-use std::alloc::Global;
+use std::alloc::{AllocError, Global};
 
-// Reads the inputs in their order.
-fn load<'a, H: Shelf>(
+/// The two texts that `plain` writes.
+#[derive(Drop)]
+pub struct Texts {
+    /// The capture of what is sent.
+    pub out: Vec<u8>,
+    pub report: Vec<u8>,
+}
+
+// Reads the inputs and judges them.
+fn load_inputs<'a, H: Shelf>(
     alloc: Global,
     shelf: &mut H,
     names: &PlainNames<'a>,
 ) -> Result<Inputs, Stop<'a>>
-    ensures content { IfOk result (λ i. AreTold (H.content shelf.old) (plain_of names.now).inputs
-        → IsWhole RULES_BYTES (held (H.content shelf.old) names.now.rules.now) i.rules
-        × IsWhole TRACE_BYTES (held (H.content shelf.old) names.now.trace.now) i.trace
-        × IsWhole SCRIPT_BYTES (held (H.content shelf.old) names.now.script.now) i.script) }
-    ensures within { IfOk result (λ i. IsWithin TRACE_BYTES i.trace) }
+    ensures are { IfOk result IsInputs }
+    ensures judged { IfOk result (λ i. AreTold (H.content shelf.old) (plain_of names.now).inputs
+        → (let holds = held (H.content shelf.old) in judged (holds names.now.rules.now) (holds names.now.trace.now) (holds names.now.script.now)) ≡ Ok i) }
     ensures stop { IfErr result (IsStop (plain_of names.now) (change H.content H.faults H.sure shelf.old shelf.new)) }
     ensures same { SameContents (H.content shelf.old) (H.content shelf.new) }
     ensures counts { NoneFell (H.faults shelf.old) (H.faults shelf.new) }
     ensures stays { StaysSure (H.sure shelf.old) (H.sure shelf.new) }
 {
-    let rules = read_input(alloc, shelf, names.rules, RULES_BYTES)?;
-    let trace = read_input(alloc, shelf, names.trace, TRACE_BYTES)?;
-    let script = read_input(alloc, shelf, names.script, SCRIPT_BYTES)?;
-    Ok(Inputs {
-        rules,
-        trace,
-        script,
-    })
+    let owned = input_names(alloc, names)?;
+    match load(alloc, &owned, shelf) {
+        Ok(inputs) => Ok(inputs),
+        Err(fault) => Err(stop_of(alloc, fault)),
+    }
+}
+
+// The texts of a run over the inputs. The one error is want of memory.
+fn run_texts(alloc: Global, inputs: &Inputs) -> Result<Texts, AllocError>
+    requires { IsInputs inputs.now }
+    ensures { IfOk result (λ t. IsPlain inputs.now (t.out.items ∷ t.report.items ∷ [])) }
+{
+    let done = plain_run::plain(alloc, inputs)?;
+    let out = outs_text(
+        alloc,
+        inputs.trace.as_slice(),
+        inputs.records,
+        done.outs.as_slice(),
+    )?;
+    let report = report_text(alloc, &done)?;
+    Ok(Texts { out, report })
 }
 
 // Reads the inputs, judges them, and makes the texts.
@@ -56,13 +80,8 @@ fn prepare<'a, H: Shelf>(
     ensures counts { NoneFell (H.faults shelf.old) (H.faults shelf.new) }
     ensures stays { StaysSure (H.sure shelf.old) (H.sure shelf.new) }
 {
-    let inputs = load(alloc, shelf, names)?;
-    let accepted = match judge(alloc, &inputs) {
-        Ok(accepted) => accepted,
-        Err(Unfit::Memory) => return Err(Stop::Memory),
-        Err(Unfit::Refused(refusal)) => return Err(refuse(alloc, refusal)),
-    };
-    Ok(plain_texts(alloc, &accepted.setup, accepted.trace)?)
+    let inputs = load_inputs(alloc, shelf, names)?;
+    Ok(run_texts(alloc, &inputs)?)
 }
 
 // Writes the texts in their order.

@@ -1,10 +1,14 @@
 // The words of a command line behind the program's name.
-ghost use Rattle.std.specs.Prelude.{◌≡◌, ◌<◌, length, IfSome, is_some};
+ghost use Rattle.std.specs.Prelude.{◌≡◌, ◌<◌, length, IfOk, IfSome, is_some};
 ghost use Rattle.std.specs.List.{list_any};
 ghost use Rattle.std.specs.Str.{bytes_eq};
 ghost use Rattle.std.specs.String.{string_bytes};
 ghost use Rattle.yoda_app.specs.Plain.{paths, plain_paths};
 ghost use Rattle.yoda_app.specs.Words.{texts, word, is_file_name, is_report_name, all_differ, are_plain, are_dump};
+
+use plain_run::Names;
+use rule_text::Name;
+use std::alloc::{AllocError, Global};
 
 /// The names that `plain` is given.
 #[derive(Clone, Copy)]
@@ -14,6 +18,25 @@ pub struct PlainNames<'a> {
     pub script: &'a str,
     pub out: &'a str,
     pub report: &'a str,
+}
+
+/// A name of its own, a copy of the word. The one error is want of memory.
+pub fn name_of(alloc: Global, word: &str) -> Result<Name, AllocError>
+    ensures { IfOk result (λ name. name ≡ word.now) }
+{
+    let text = String::from_str(alloc, word)?;
+    Ok(Name::new(text))
+}
+
+/// The names of the inputs among them, each a copy of its word. The one error is want of memory.
+pub fn input_names(alloc: Global, names: &PlainNames<'_>) -> Result<Names, AllocError>
+    ensures { IfOk result (λ n. n ≡ record { rules = names.now.rules.now; trace = names.now.trace.now; script = names.now.script.now }) }
+{
+    Ok(Names {
+        rules: name_of(alloc, names.rules)?,
+        trace: name_of(alloc, names.trace)?,
+        script: name_of(alloc, names.script)?,
+    })
 }
 
 fn is_file_name(name: &str) -> bool

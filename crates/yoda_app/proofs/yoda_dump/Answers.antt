@@ -1,6 +1,7 @@
 use Rattle.std.proofs.Common.{ℕ, List, sym, subst}
 use Rattle.std.specs.Prelude.{codes}
-use Rattle.yoda_app.specs.Commands.{change, IsRun}
+use Rattle.shelf.specs.Changes.{change}
+use Rattle.yoda_app.specs.Commands.{IsRun}
 use Rattle.yoda_app.specs.DumpCommand.{dump_over}
 use Rattle.yoda_app.proofs.Runs.{run_of, outside_one, not_output}
 use Rattle.yoda_app.proofs.yoda_dump.Goals as goal

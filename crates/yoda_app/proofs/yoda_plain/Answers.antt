@@ -1,6 +1,7 @@
 use Rattle.std.proofs.Common.{ℕ, sym, subst}
 use Rattle.std.specs.Prelude.{codes}
-use Rattle.yoda_app.specs.Commands.{change, IsRun}
+use Rattle.shelf.specs.Changes.{change}
+use Rattle.yoda_app.specs.Commands.{IsRun}
 use Rattle.yoda_app.specs.Plain.{Paths, paths, plain_over, plain_of}
 use Rattle.yoda_app.specs.Words.{texts}
 use Rattle.yoda_app.proofs.Named.{AreOutputs, plain_outputs}

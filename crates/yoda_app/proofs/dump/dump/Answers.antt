@@ -1,7 +1,7 @@
 use Rattle.std.proofs.Common.{[], ◌∷◌, inr}
 use Rattle.std.specs.Prelude.{codes}
 use Rattle.std.specs.String.{string_bytes}
-use Rattle.yoda_app.specs.Commands.{change}
+use Rattle.shelf.specs.Changes.{change}
 use Rattle.yoda_app.specs.DumpCommand.{dump_over}
 use Rattle.yoda_app.proofs.Stops.{ends, only_stops, only_written}
 use Rattle.yoda_app.proofs.dump.dump.Goals as goal
