@@ -3,15 +3,7 @@ import random
 import struct
 import sys
 
-
-def total(data):
-    """The Internet checksum (RFC 1071)."""
-    if len(data) % 2:
-        data += b"\0"
-    s = sum(struct.unpack(f">{len(data) // 2}H", data))
-    while s >> 16:
-        s = (s & 0xFFFF) + (s >> 16)
-    return 0xFFFF - s
+from wire import total
 
 
 def packet(rng, options=b"", data=b"", spoil=None, ip_options=b""):

@@ -7,7 +7,7 @@ command -v tcpdump >/dev/null || { echo "checksums: skipped, there is no tcpdump
 program "$top"
 out=$(mktemp -d)
 trap 'rm -rf "$out"' EXIT
-inputs=$top/examples/one-syn
+inputs=$top/examples/takeover
 "$PROGRAM" plain "$inputs/rules.toml" "$inputs/trace.pcap" "$inputs/script.txt" "$out/out.pcap" "$out/report.txt"
 tcpdump -nvvr "$out/out.pcap" >"$out/text" 2>/dev/null
 packets=$(grep -c 'length' "$out/text" || true)
