@@ -2,3 +2,4 @@ mod Candidates
 mod Extended
 mod Knowing
 mod Lines
+mod Numbers

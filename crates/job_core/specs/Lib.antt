@@ -1,4 +1,5 @@
 pub mod Aims
+pub mod Forged
 pub mod Held
 pub mod Jobs
 pub mod Moves

@@ -10,6 +10,7 @@ use crate::answers::Answers;
 use crate::asking::{asks_open, asks_syn};
 use crate::client::{claimed, client_before_open, client_of_open};
 use crate::ending::{ended, passing, unknown};
+use crate::forged::ForgedNumbers;
 use crate::mark::JobMark;
 use crate::moves::{Answer, HeldChange, Move, Next};
 use crate::phase::Phase;
@@ -18,7 +19,7 @@ use crate::server::{opened_by, resolved, server_before_open, server_of_open};
 use crate::step::Step;
 use crate::verdict::Verdict;
 use client_hand::syn_record;
-use flow_id::{Flow, Key, Side, marks_of};
+use flow_id::{Flow, Key, Side};
 use flow_record::{Ask, Record};
 use rule_table::Setup;
 use seq_space::Num;
@@ -107,6 +108,27 @@ impl Job {
         ensures answered { IfOk result (λ m. IsAnswered setup.now self.old got held.now m self.new) }
         ensures refused { OnErr result (self.new ≡ self.old) }
     {
+        let mut forged = ForgedNumbers::new(self.alloc, setup.secret());
+        self.answer_with(setup, &mut forged, got, held)
+    }
+
+    /// The table's next move like `answer`, with the forged numbers by the setup's secret: the number of a flow whose
+    /// segment is passed on is taken from them. The one error is want of memory, and then the job is as before.
+    pub fn answer_with(
+        &mut self,
+        setup: &Setup,
+        forged: &mut ForgedNumbers,
+        got: Answer,
+        held: &[u8],
+    ) -> Result<Move, AllocError>
+        requires may { MayAnswer setup.now self.old.ask got }
+        requires servers { KnowsServers setup.now self.old }
+        requires held { length held.now ≤ 14600 }
+        requires secret { forged.old ≡ setup.now.secret }
+        ensures answered { IfOk result (λ m. IsAnswered setup.now self.old got held.now m self.new) }
+        ensures refused { OnErr result (self.new ≡ self.old) }
+        ensures forged { forged.new ≡ forged.old }
+    {
         match self.step(setup, got, held)? {
             Step::Asks { ask, phase, held } => {
                 self.go_on(got, ask, phase);
@@ -121,8 +143,12 @@ impl Job {
                 let next = Next::End { verdict, outs };
                 Ok(Move { next, held })
             }
-            Step::ToServer { flow, opened } => self.pass(setup, flow, opened, Side::Client),
-            Step::ToClient { flow, opened } => self.pass(setup, flow, opened, Side::Server),
+            Step::ToServer { flow, opened } => {
+                self.pass(setup, forged, flow, opened, Side::Client)
+            }
+            Step::ToClient { flow, opened } => {
+                self.pass(setup, forged, flow, opened, Side::Server)
+            }
         }
     }
 
@@ -168,16 +194,19 @@ impl Job {
     fn pass(
         &mut self,
         setup: &Setup,
+        forged: &mut ForgedNumbers,
         flow: Flow,
         opened: Record,
         from: Side,
     ) -> Result<Move, AllocError>
-        requires { IsKnownOpen setup.now opened }
+        requires opened { IsKnownOpen setup.now opened }
+        requires secret { forged.old ≡ setup.now.secret }
         ensures passed { IfOk result (λ m. m ≡ ends Forwarded (passed_from from setup.now flow self.old.segment opened ∷ [])) }
         ensures refused { OnErr result (self.new ≡ self.old) }
+        ensures forged { forged.new ≡ forged.old }
     {
         let mut items = Vec::with_capacity(self.alloc, 1)?;
-        let forged = Num(marks_of(setup.secret(), &flow).forged);
+        let forged = Num(forged.forged(&flow));
         let seg = self.take_segment();
         let passed = match from {
             Side::Client => to_server(setup, seg, forged, &opened),

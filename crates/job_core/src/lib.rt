@@ -7,6 +7,7 @@ mod answers;
 mod asking;
 mod client;
 mod ending;
+mod forged;
 mod held;
 mod job;
 mod mark;
@@ -19,6 +20,7 @@ mod step;
 mod verdict;
 
 pub use aim::{Aim, aim_of};
+pub use forged::ForgedNumbers;
 pub use job::Job;
 pub use mark::JobMark;
 pub use moves::{Answer, HeldChange, Move, Next};
