@@ -1,6 +1,7 @@
 -- IPv4 packets (RFC 791, 3.1): which bytes spell a packet, and the faults of bytes that do not.
 use Rattle.std.specs.Prelude.{◌≡◌, ◌≤◌, ◌<◌, ℕ, ◌+◌, ◌*◌, ◌/◌, ◌%◌, ◌^◌, Bool, nat_lt, ◌==◌, ◌||◌, not, List, [], ◌∷◌, ◌++◌, length, take, slice_index}
 use Rattle.common.specs.Fields.{field}
+use Rattle.ipv4.specs.declared.packet.TheConstants.{PAYLOAD_LIMIT}
 use Rattle.ipv4.specs.declared.packet.Packet.{Packet}
 use Rattle.ipv4.specs.declared.packet.IpFault.{IpFault}
 use Rattle.ipv4.specs.declared.packet.IpFault.TheVariants.{Short, Version, HeaderLength, TotalLength, BadSum, Fragment, Protocol}
@@ -62,5 +63,5 @@ faults bytes =
 -- what is written is read again, whatever follows it
 abbrev pub IsReadAgain : ℕ → ℕ → List ℕ → List ℕ → Type 0
 IsReadAgain source target payload more =
-    source < 2 ^ 32 → target < 2 ^ 32 → length payload ≤ 65515
+    source < 2 ^ 32 → target < 2 ^ 32 → length payload ≤ PAYLOAD_LIMIT
     → IsPacket (spelling source target payload ++ more) (record { source = source; target = target; start = 20; end = 20 + length payload })

@@ -8,7 +8,7 @@ mod reading;
 mod writing;
 
 pub use checksum::{add_words, add_words_blanked, sum};
-pub use packet::{IpFault, Packet};
+pub use packet::{IpFault, PAYLOAD_LIMIT, Packet};
 pub use reading::read;
 pub use writing::{packet_header, write, written_packet_is_read};
 

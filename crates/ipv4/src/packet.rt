@@ -1,3 +1,6 @@
+/// The most bytes of payload behind a header without options: the length field has 16 bits, and counts the header's 20.
+pub const PAYLOAD_LIMIT: usize = 65_515;
+
 /// An IPv4 packet as it stands in the bytes that it was read from.
 #[derive(Clone, Copy, Debug, PartialEq, Eq)]
 pub struct Packet {

@@ -1,4 +1,5 @@
 ghost use Rattle.std.specs.Prelude.{◌≡◌, ◌≤◌, ◌++◌, ℕ, List, length, OnOk, OnErr};
+ghost use Rattle.ipv4.specs.declared.packet.TheConstants.{PAYLOAD_LIMIT};
 ghost use Rattle.ipv4.specs.Packet.{IsReadAgain};
 ghost use Rattle.ipv4.specs.Written.{spelling, header, header_with};
 
@@ -31,7 +32,7 @@ pub fn packet_header(source: u32, target: u32, total: u16) -> [u8; 20]
 /// Writes the packet with this payload at the end of `out`. The one error is want of memory, and then `out` is as it
 /// was.
 pub fn write(source: u32, target: u32, payload: &[u8], out: &mut Vec<u8>) -> Result<(), AllocError>
-    requires { length payload.now ≤ 65515 }
+    requires { length payload.now ≤ PAYLOAD_LIMIT }
     ensures ok { OnOk result (out.new.items ≡ out.old.items ++ spelling source target payload.now) }
     ensures err { OnErr result (out.new.items ≡ out.old.items) }
 {

@@ -3,6 +3,7 @@
 use Rattle.std.specs.Prelude.{◌≡◌, ◌≤◌, ℕ, ◌+◌, ◌/◌, Bool, nat_lt, ◌==◌, ◌||◌, ◌&&◌, not, if◌then◌else◌, List, [], ◌∷◌, length, drop}
 use Rattle.byteorder.specs.Endian.{little_number}
 use Rattle.common.specs.Fields.{field}
+use Rattle.pcap_file.specs.declared.capture.TheConstants.{RECORD_LIMIT}
 use Rattle.pcap_file.specs.declared.capture.Link.TheVariants.{Ethernet, Raw}
 use Rattle.pcap_file.specs.declared.capture.Frame.{Frame}
 use Rattle.pcap_file.specs.declared.capture.Settings.{Settings}
@@ -63,14 +64,14 @@ micros_at s at bytes = if s.nano then number_at s.little (at + 4) 4 bytes / 1000
 abbrev pub record_faults : Settings → ℕ → List ℕ → List (Bool × PcapFault)
 record_faults s at bytes =
     (nat_lt (length bytes) (at + 16), RecordCut at)
-    ∷ (nat_lt 262144 (kept_at s at bytes), TooLarge at (kept_at s at bytes))
+    ∷ (nat_lt RECORD_LIMIT (kept_at s at bytes), TooLarge at (kept_at s at bytes))
     ∷ (nat_lt (length bytes) (at + 16 + kept_at s at bytes), RecordCut at)
     ∷ []
 
 -- a whole record begins at this place, and this is its frame
 pub record IsFrame (s : Settings) (at : ℕ) (bytes : List ℕ) (f : Frame) : Type 0 where
   pub head : at + 16 ≤ length bytes
-  pub small : f.kept ≤ 262144
+  pub small : f.kept ≤ RECORD_LIMIT
   pub inside : at + 16 + f.kept ≤ length bytes
   pub place : f.at ≡ at + 16
   pub seconds : f.seconds ≡ number_at s.little at 4 bytes

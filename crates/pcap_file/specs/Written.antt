@@ -4,6 +4,7 @@ use Rattle.std.specs.List.{flat_map}
 use Rattle.std.specs.Prelude.{slice_range}
 use Rattle.byteorder.specs.Endian.{little_bytes}
 use Rattle.pcap_file.specs.declared.capture.Frame.{Frame}
+use Rattle.pcap_file.specs.declared.capture.TheConstants.{RECORD_LIMIT}
 use Rattle.pcap_file.specs.declared.capture.Link.TheVariants.{Raw}
 use Rattle.pcap_file.specs.Frames.{capture_of}
 
@@ -27,7 +28,7 @@ pub record Record : Type 0 where
 pub record Fits (r : Record) : Type 0 where
   pub seconds : r.seconds < 2 ^ 32
   pub micros : r.micros < 2 ^ 32
-  pub body : length r.body ≤ 262144
+  pub body : length r.body ≤ RECORD_LIMIT
 
 abbrev pub bytes_of : Record → List ℕ
 bytes_of r = record_bytes r.seconds r.micros r.body

@@ -1,3 +1,9 @@
+/// The most bytes of a file that is read.
+pub const FILE_LIMIT: usize = 67_108_864;
+
+/// The most bytes that a record keeps.
+pub const RECORD_LIMIT: u32 = 262_144;
+
 /// What a frame begins with.
 #[derive(Clone, Copy, Debug, PartialEq, Eq)]
 pub enum Link {

@@ -9,7 +9,7 @@ mod numbers;
 mod reading;
 mod writing;
 
-pub use capture::{Frame, Link, PcapFault, Settings};
+pub use capture::{FILE_LIMIT, Frame, Link, PcapFault, RECORD_LIMIT, Settings};
 pub use ethernet::network;
 pub use reading::{Reader, capture_is_its_frames};
 pub use writing::{write_header, write_record, write_record_head, written_capture_is_read};

@@ -1,10 +1,11 @@
 ghost use Rattle.std.specs.Prelude.{◌≡◌, ◌≤◌, ◌<◌, ◌+◌, ◌-◌, ℕ, List, length, IfOk, IfErr, IfSome, IfNone, OnErr, None, Some};
 ghost use Rattle.std.specs.Result.{result_err};
 ghost use Rattle.common.specs.Faults.{first};
+ghost use Rattle.pcap_file.specs.declared.capture.TheConstants.{FILE_LIMIT};
 ghost use Rattle.pcap_file.specs.Capture.{settings_of, header_faults, record_faults, IsFrame};
 ghost use Rattle.pcap_file.specs.Frames.{Capture, capture_of, left_of, ended, stopped, before, IsCapture};
 
-use crate::capture::{Frame, Link, PcapFault, Settings};
+use crate::capture::{Frame, Link, PcapFault, RECORD_LIMIT, Settings};
 use crate::numbers::{u16_at, u32_at};
 use std::marker::Model;
 
@@ -37,7 +38,7 @@ fn settings_at(bytes: &[u8]) -> Result<Settings, PcapFault>
 }
 
 fn frame_at(settings: &Settings, bytes: &[u8], at: usize) -> Result<Option<Frame>, PcapFault>
-    requires fits { length bytes.now ≤ 67108864 }
+    requires fits { length bytes.now ≤ FILE_LIMIT }
     requires inside { at ≤ length bytes.now }
     ensures found { IfOk result (λ o. IfSome o (IsFrame settings.now at bytes.now)) }
     ensures end { IfOk result (λ o. IfNone o (at ≡ length bytes.now)) }
@@ -52,7 +53,7 @@ fn frame_at(settings: &Settings, bytes: &[u8], at: usize) -> Result<Option<Frame
     }
     let little = settings.little;
     let kept = u32_at(little, bytes, at + 8);
-    if kept > 262_144 {
+    if kept > RECORD_LIMIT {
         return Err(PcapFault::TooLarge {
             at: at as u32,
             kept,
@@ -95,7 +96,7 @@ impl Model for Reader {
 impl Reader {
     /// Reads the file header. It takes no memory.
     pub fn open(bytes: &[u8]) -> Result<Reader, PcapFault>
-        requires { length bytes.now ≤ 67108864 }
+        requires { length bytes.now ≤ FILE_LIMIT }
         // The frames that are left are those of the file.
         ensures left { IfOk result (λ r. left_of r bytes.now ≡ capture_of bytes.now) }
         // It is the first fault of the header, and Ok where there is none.
@@ -117,7 +118,7 @@ impl Reader {
     /// the same fault is answered again. It takes no memory.
     #[tactic(auto, using(crate::proofs::Walks::steps))]
     pub fn next(&mut self, bytes: &[u8]) -> Result<Option<Frame>, PcapFault>
-        requires fits { length bytes.now ≤ 67108864 }
+        requires fits { length bytes.now ≤ FILE_LIMIT }
         requires inside { self.old.place ≤ length bytes.now }
         // The answer is the first of what was left, and behind a frame stands what is left now.
         ensures frame { IfOk result (λ o. IfSome o (λ f. left_of self.old bytes.now ≡ before f (left_of self.new bytes.now))) }

@@ -1,5 +1,6 @@
 ghost use Rattle.std.specs.Prelude.{◌≡◌, ◌≤◌, ◌<◌, ◌+◌, ◌++◌, List, length, vec_len, vec_capacity, OnOk, OnErr};
 ghost use Rattle.std.specs.List.{AllByRecursion};
+ghost use Rattle.pcap_file.specs.declared.capture.TheConstants.{RECORD_LIMIT};
 ghost use Rattle.pcap_file.specs.Written.{header_bytes, head_bytes, record_bytes, Record, Fits, IsReadAgain};
 
 use std::alloc::AllocError;
@@ -56,7 +57,7 @@ pub fn write_record(
     bytes: &[u8],
     out: &mut Vec<u8>,
 ) -> Result<(), AllocError>
-    requires { length bytes.now ≤ 262144 }
+    requires { length bytes.now ≤ RECORD_LIMIT }
     ensures ok { OnOk result (out.new.items ≡ out.old.items ++ record_bytes seconds micros bytes.now) }
     ensures err { OnErr result (out.new.items ≡ out.old.items) }
 {
