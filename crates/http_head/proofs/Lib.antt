@@ -3,4 +3,5 @@ pub mod FoundLemmas
 pub mod LineLemmas
 pub mod ReadingLemmas
 pub mod SpanLemmas
+pub mod StaysLemmas
 pub mod TrueLemmas

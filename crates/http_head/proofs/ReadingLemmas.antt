@@ -7,11 +7,12 @@ use Rattle.httparse.specs.Grammar.{RequestHead, ReadsRequest, print_request}
 use Rattle.httparse.proofs.GrammarLemmas.{request_unique, ReadsRequest-append}
 use Rattle.http_head.specs.Lines.{lines_of}
 use Rattle.http_head.specs.Reading.{Reading, complete, bad, partial, head_of, are_over, without_head, reading_with, reading, field_line_limit}
-use Rattle.http_head.specs.Laws.{BeginsWith, CompleteIsHead, HeadIsOne, CompleteStays, HeadAlone}
-use Rattle.http_head.proofs.LineLemmas.{joined-lines_of}
+use Rattle.http_head.specs.Laws.{BeginsWith, OthersByLines, BadStays, CompleteIsHead, HeadIsOne, CompleteStays, HeadAlone}
+use Rattle.http_head.proofs.LineLemmas.{joined-lines_of, is_ended-lines_of}
 use Rattle.http_head.proofs.FoundLemmas.{head_found}
 use Rattle.http_head.proofs.TrueLemmas.{head_true}
 use Rattle.http_head.proofs.CaseLemmas.{cond_is}
+use Rattle.http_head.proofs.StaysLemmas.{glue_of, are_over_stays, head_stays}
 
 -- without a head nothing is complete
 pub without_head_is_incomplete : (lines : List (List ℕ)) → is_complete (without_head lines) ≡ false
@@ -93,3 +94,34 @@ without_head_from_none bytes none = at (head_of (lines_of bytes)) refl
         let many : leb (length h.fields) field_line_limit ≡ false =
         false_from_ne_true _ (λ few. none h begins.0 reads (leb-true _ _ few)) in
         ap (λ o. reading_with o (lines_of bytes)) e ∙ cond-false _ _ _ many
+
+pub others_by_lines : OthersByLines
+others_by_lines bytes none = without_head_from_none bytes (λ h rest reads few. none h ((rest, reads), few))
+
+without_head_over : (lines : List (List ℕ)) → without_head lines ≡ bad → are_over lines ≡ true
+without_head_over lines e =
+    elim (cond_is (are_over lines) bad partial bad e) [
+      | inl over ↦ over.0
+      | inr left ↦ absurd cc
+    ]
+
+bad_is_over : (o : Option RequestHead) (lines : List (List ℕ)) → reading_with o lines ≡ bad → are_over lines ≡ true
+bad_is_over None lines e = without_head_over lines e
+bad_is_over (Some h) lines e =
+    elim (cond_is (leb (length h.fields) field_line_limit) (complete h) (without_head lines) bad e) [
+      | inl few ↦ absurd cc
+      | inr many ↦ without_head_over lines many.1
+    ]
+
+pub bad_stays : BadStays
+unfolding reading
+bad_stays bytes more e =
+    let over : are_over (lines_of bytes) ≡ true = bad_is_over (head_of (lines_of bytes)) (lines_of bytes) e in
+    let glued = glue_of bytes more in
+    let none : (head : RequestHead) → BeginsWith (bytes ++ more) head → ⊥ = λ head begins.
+    let found = complete_true (head_of (lines_of (bytes ++ more))) (lines_of (bytes ++ more)) head (complete_from_begins (bytes ++ more) head begins) in
+    let here = head_stays (lines_of bytes) (lines_of more) head over found.1 (is_ended-lines_of more) (sym (ap head_of glued) ∙ found.0) in
+    let whole : reading_with (head_of (lines_of bytes)) (lines_of bytes) ≡ complete head =
+    ap (λ o. reading_with o (lines_of bytes)) here ∙ cond-true _ _ _ (le-leb _ _ found.1) in
+    both_ways false refl (ap is_complete (sym e ∙ whole)) in
+    others_by_lines (bytes ++ more) none ∙ cond-true _ _ _ (ap are_over glued ∙ are_over_stays (lines_of bytes) (lines_of more) over)

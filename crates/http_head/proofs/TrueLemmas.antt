@@ -140,15 +140,15 @@ minor_version_true version minor e =
     ]
 
 -- the head that these words, this line end and these fields make
-record IsMadeOf (words : List (List ℕ)) (end : LineEnd) (s : List Field × LineEnd) (h : RequestHead) : Type 0 where
-  words_are : words ≡ h.method ∷ h.target ∷ print_version h.minor ∷ []
-  blank : h.blank ≡ []
-  line_end : h.line_end ≡ end
-  fields : h.fields ≡ s.0
-  last : h.last ≡ s.1
-  is : All IsField s.0 → IsRequestHead h
+pub record IsMadeOf (words : List (List ℕ)) (end : LineEnd) (s : List Field × LineEnd) (h : RequestHead) : Type 0 where
+  pub words_are : words ≡ h.method ∷ h.target ∷ print_version h.minor ∷ []
+  pub blank : h.blank ≡ []
+  pub line_end : h.line_end ≡ end
+  pub fields : h.fields ≡ s.0
+  pub last : h.last ≡ s.1
+  pub is : All IsField s.0 → IsRequestHead h
 
-head_with_true : (words : List (List ℕ)) (end : LineEnd) (s : List Field × LineEnd) (h : RequestHead)
+pub head_with_true : (words : List (List ℕ)) (end : LineEnd) (s : List Field × LineEnd) (h : RequestHead)
     → head_with words end s ≡ Some h → IsMadeOf words end s h
 head_with_true [] end s h e = absurd cc
 head_with_true (method ∷ []) end s h e = absurd cc

@@ -1,8 +1,9 @@
 -- What the answers of `head` say of the bytes.
-use Rattle.std.specs.Prelude.{◌≡◌, ℕ, ◌≤◌, IsTrue, IfSome, List, length, take, map, option_map, slice_range}
-use Rattle.httparse.specs.Spans.{IsRequestWithin, span_bytes, header_bytes}
+use Rattle.std.specs.Prelude.{◌≡◌, ℕ, ◌≤◌, All, IsTrue, IfSome, List, length, take, map, option_map, slice_range}
+use Rattle.httparse.specs.Spans.{IsHeaderWithin, IsRequestWithin, span_bytes, header_bytes}
 use Rattle.httparse.specs.declared.spans.HeaderSpan.{HeaderSpan}
 use Rattle.httparse.specs.declared.spans.RequestSpans.{RequestSpans}
+use Rattle.http_head.specs.declared.cookie.Fields.{Fields}
 use Rattle.http_head.specs.declared.read.Part.{Part}
 use Rattle.http_head.specs.declared.read.HttpHead.{HttpHead}
 use Rattle.http_head.specs.declared.read.HeadRead.{HeadRead}
@@ -25,8 +26,14 @@ pub record IsHeadOf (bytes : List ℕ) (head : HttpHead) : Type 0 where
   pub path : part_bytes bytes head.path ≡ target_of (reading bytes)
   pub host : option_map (part_bytes bytes) head.host ≡ host_of (reading bytes)
   pub fits : head.length ≤ length bytes
-  pub path_fits : IsWithin (length bytes) head.path
-  pub host_fits : IfSome head.host (IsWithin (length bytes))
+  pub path_fits : IsWithin head.length head.path
+  pub host_fits : IfSome head.host (IsWithin head.length)
+
+-- these are the head's fields, and each stands in the bytes
+pub record AreFieldsOf (bytes : List ℕ) (f : Fields) : Type 0 where
+  pub few : f.count ≤ length f.spans
+  pub within : All (IsHeaderWithin (length bytes)) (take f.count f.spans)
+  pub fields : map (header_bytes bytes) (take f.count f.spans) ≡ fields_of (reading bytes)
 
 -- the answer is what the bytes say
 abbrev pub IsReading : List ℕ → HeadRead → Type 0

@@ -69,7 +69,7 @@ head_of (line ∷ lines) =
     if is_blank line then option_map (after_blank w.1) (head_of lines)
     else option_and_then (head_with (slice_split (λ b. b == space) w.0) w.1) (section_of lines)
 
--- what bytes say: they begin with a head; they hold none, and its lines are over; or it may still come
+-- what bytes say: they begin with a head; they hold none, and its lines are over; or nothing ends its lines yet
 pub data Reading : Type 0 where
   complete : RequestHead → Reading
   bad partial : Reading

@@ -1,5 +1,5 @@
-//! The head of an HTTP request (RFC 9112): whether bytes that have come begin with one, hold none or may still become
-//! one, and what of it chooses a server.
+//! The head of an HTTP request (RFC 9112): whether bytes that have come begin with one, hold none, or hold none and
+//! nothing ends its lines yet, and what of it chooses a server.
 #![tactic(auto)]
 
 mod cookie;
@@ -7,7 +7,7 @@ mod laws;
 mod lines;
 mod read;
 
-pub use cookie::has_cookie;
+pub use cookie::{Fields, fields_of, has_cookie, has_cookie_in};
 pub use laws::readings;
 pub use read::{FIELD_LINES, HeadRead, HttpHead, Part, head};
 

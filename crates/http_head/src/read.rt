@@ -1,4 +1,4 @@
-ghost use Rattle.std.specs.Prelude.{◌≡◌, All, IfNone, IfSome, length, map, option_map};
+ghost use Rattle.std.specs.Prelude.{◌≡◌, ℕ, All, IfNone, IfSome, length, map, option_map};
 ghost use Rattle.httparse.specs.Spans.{IsHeaderWithin, header_bytes};
 ghost use Rattle.http_head.specs.Fields.{first_named, same_name};
 ghost use Rattle.http_head.specs.Lines.{lines_of};
@@ -89,7 +89,7 @@ pub(crate) fn is_named(bytes: &[u8], field: HeaderSpan, name: &[u8]) -> bool
 /// The value of the first of the fields with that name.
 fn value_named(bytes: &[u8], fields: &[HeaderSpan], name: &[u8]) -> Option<Part>
     requires { All (IsHeaderWithin (length bytes.now)) fields.now }
-    ensures within { IfSome result (IsWithin (length bytes.now)) }
+    ensures within { (n : ℕ) → All (IsHeaderWithin n) fields.now → IfSome result (IsWithin n) }
     ensures value { option_map (part_bytes bytes.now) result ≡ first_named name.now (map (header_bytes bytes.now) fields.now) }
 {
     for field in fields {
