@@ -1,8 +1,8 @@
 // One counter for each kind of call. A counter of 64 bits stands still at its last value.
-ghost use Rattle.std.specs.Prelude.{◌≡◌, ◌≤◌};
-ghost use Rattle.common.specs.Causes.{Rose};
+ghost use Rattle.std.specs.Prelude.{◌≡◌, ◌≤◌, true};
+ghost use Rattle.common.specs.Causes.{risen, Rose};
 ghost use Rattle.shelf.specs.declared.outside.Kind.{Kind};
-ghost use Rattle.shelf.specs.Counters.{count_of};
+ghost use Rattle.shelf.specs.Counters.{count_of, counted};
 
 use crate::outside::Kind;
 
@@ -13,7 +13,7 @@ pub struct Counters {
 }
 
 fn one_more(count: u64) -> u64
-    ensures rose { Rose count result }
+    ensures one { result ≡ risen count }
     ensures later { count ≤ result }
 {
     count.saturating_add(1)
@@ -39,6 +39,7 @@ impl Counters {
     }
 
     pub fn raise(&mut self, kind: Kind)
+        ensures one { self.new ≡ counted true kind self.old }
         ensures rose { Rose (count_of self.old kind) (count_of self.new kind) }
         ensures none_fell { (k : Kind) → count_of self.old k ≤ count_of self.new k }
     {

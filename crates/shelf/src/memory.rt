@@ -1,11 +1,13 @@
 // A shelf in memory, some of whose calls fail.
-ghost use Rattle.std.specs.Prelude.{◌≡◌, ◌≢◌, ◌≤◌, ◌<◌, ◌++◌, [], List, ℕ, Some, IsSome, IsOk, IsErr, IfOk, IfSome, OnOk, OnErr, is_ok, position, length, take, true, false};
+ghost use Rattle.std.specs.Prelude.{◌≡◌, ◌≢◌, ◌≤◌, ◌<◌, ◌++◌, [], List, ℕ, Some, IsSome, IsOk, IsErr, IfOk, IfSome, OnOk, OnErr, is_ok, position, length, take, not, true, false};
 ghost use Rattle.std.specs.Option.{unwrap_or, option_copied, option_map};
+ghost use Rattle.std.specs.Result.{is_err};
 ghost use Rattle.common.specs.Causes.{Rose};
 ghost use Rattle.shelf.specs.declared.outside.Kind.{Kind};
 ghost use Rattle.shelf.specs.declared.outside.Kind.TheVariants.{Reading, Writing};
 ghost use Rattle.shelf.specs.Shelf.{SameContents, SameOthers, NoneFell, StaysSure, IsRead, is_stream, started};
 ghost use Rattle.shelf.specs.Files.{fault_count, is_named, bytes_of, contents, counts, IsSure, NoneToCome, is_listed, can_read, TookNumber};
+ghost use Rattle.shelf.specs.Counters.{counted};
 
 use crate::counters::Counters;
 use crate::outside::{Failed, Kind, Shelf};
@@ -55,6 +57,7 @@ fn empty(alloc: Global, files: &mut Files, name: &str) -> Result<(), AllocError>
     ensures ok { OnOk result (bytes_of files.new.items name.now ≡ Some []) }
     ensures others { (n : List ℕ) → n ≢ name.now → bytes_of files.new.items n ≡ bytes_of files.old.items n }
     ensures err { OnErr result ((n : List ℕ) → bytes_of files.new.items n ≡ bytes_of files.old.items n) }
+    ensures there { IsSome (bytes_of files.old.items name.now) → IsOk result }
 {
     match place(files, name) {
         Some(at) => files[at].1.clear(),
@@ -145,6 +148,8 @@ impl Shelf for MemoryShelf {
         ensures length { IfSome (contents self.old name.now) (λ c. IfOk result (λ n. n ≡ length c)) }
         ensures same { SameContents (contents self.old) (contents self.new) }
         ensures answers { is_ok result ≡ can_read self.old name.now }
+        ensures files { self.new.files ≡ self.old.files }
+        ensures counted { self.new.faults ≡ counted (is_err result) Reading self.old.faults }
         ensures cause { OnErr result (Rose (fault_count self.old Reading) (fault_count self.new Reading)) }
         ensures known { IsSure self.old name.now → IsOk result }
         ensures counts { NoneFell (counts self.old) (counts self.new) }
@@ -165,6 +170,8 @@ impl Shelf for MemoryShelf {
         ensures bytes { IfSome (contents self.old name.now) (λ c. IfOk result (λ n. IsRead c at buf.new n)) }
         ensures same { SameContents (contents self.old) (contents self.new) }
         ensures answers { is_ok result ≡ can_read self.old name.now }
+        ensures files { self.new.files ≡ self.old.files }
+        ensures counted { self.new.faults ≡ counted (is_err result) Reading self.old.faults }
         ensures cause { OnErr result (Rose (fault_count self.old Reading) (fault_count self.new Reading)) }
         ensures known { IsSure self.old name.now → IsOk result }
         ensures counts { NoneFell (counts self.old) (counts self.new) }
@@ -183,10 +190,15 @@ impl Shelf for MemoryShelf {
     fn start(&mut self, name: &str) -> Result<(), Failed>
         ensures emptied { OnOk result (contents self.new name.now ≡ started name.now (contents self.old name.now)) }
         ensures made { OnOk result (is_stream name.now ≡ false → IsSome (bytes_of self.new.files name.now)) }
+        ensures streams { is_stream name.now ≡ true → self.new.files ≡ self.old.files }
+        ensures stream_answers { is_stream name.now ≡ true → is_ok result ≡ not (is_listed self.old) }
+        ensures there_answers { IsSome (bytes_of self.old.files name.now) → is_ok result ≡ not (is_listed self.old) }
         ensures others { SameOthers name.now (contents self.old) (contents self.new) }
         ensures elsewhere { SameOthers name.now (bytes_of self.old.files) (bytes_of self.new.files) }
         ensures failed { OnErr result (SameContents (contents self.old) (contents self.new)) }
         ensures listed { is_listed self.old ≡ true → IsErr result }
+        ensures counted { self.new.faults ≡ counted (is_err result) Writing self.old.faults }
+        ensures unmade { OnErr result ((n : List ℕ) → bytes_of self.new.files n ≡ bytes_of self.old.files n) }
         ensures cause { OnErr result (Rose (fault_count self.old Writing) (fault_count self.new Writing)) }
         ensures counts { NoneFell (counts self.old) (counts self.new) }
         ensures stays { StaysSure (IsSure self.old) (IsSure self.new) }
@@ -212,6 +224,8 @@ impl Shelf for MemoryShelf {
         ensures elsewhere { SameOthers name.now (bytes_of self.old.files) (bytes_of self.new.files) }
         ensures failed { OnErr result (SameContents (contents self.old) (contents self.new)) }
         ensures listed { is_listed self.old ≡ true → IsErr result }
+        ensures counted { self.new.faults ≡ counted (is_err result) Writing self.old.faults }
+        ensures unmade { OnErr result ((n : List ℕ) → bytes_of self.new.files n ≡ bytes_of self.old.files n) }
         ensures cause { OnErr result (Rose (fault_count self.old Writing) (fault_count self.new Writing)) }
         ensures counts { NoneFell (counts self.old) (counts self.new) }
         ensures stays { StaysSure (IsSure self.old) (IsSure self.new) }

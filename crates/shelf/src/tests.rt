@@ -62,3 +62,15 @@ fn a_real_file_is_written_and_read(rt: HostRuntime) -> Result<(), Fail> {
     assert_eq!(rt; shelf.append("-", b"out"), Ok(3));
     Ok(())
 }
+
+#[test]
+fn a_length_that_is_none_is_a_failed_read(rt: HostRuntime) -> Result<(), Fail> {
+    let mut shelf = FileShelf::new(&rt, Vec::new(rt.alloc()), Vec::new(rt.alloc()));
+    assert_eq!(rt; shelf.size("/dev/null"), Ok(0));
+    for name in [".", "/dev/zero", "/proc/self/status"] {
+        assert_eq!(rt; shelf.size(name), Err(Failed), "{name}");
+    }
+    assert_eq!(rt; shelf.start("empty"), Ok(()));
+    assert_eq!(rt; shelf.size("empty"), Ok(0));
+    Ok(())
+}
