@@ -1,5 +1,5 @@
 -- A call between its turn's beginning and end.
-use Rattle.std.proofs.Common.{◌≡◌, ℕ, ◌+◌, ◌<◌, ◌^◌, [], ◌∷◌, ◌++◌, length, take, true, Some, None, ap, sym, refl, ◌∙◌, subst, Contains, ⊎_elim}
+use Rattle.std.proofs.Common.{◌≡◌, ℕ, ◌+◌, ◌<◌, ◌^◌, List, [], ◌∷◌, ◌++◌, length, take, true, Some, None, ap, sym, refl, ◌∙◌, subst, Contains, ⊎_elim}
 use Rattle.std.proofs.lemmas.List.Elements.{Contains-append_right}
 use Rattle.seen_lock.proofs.SeatLemmas.{contains_cases, number_there, head_there}
 use Rattle.std.proofs.Math.Seq.{take-append_seam}
@@ -10,14 +10,14 @@ use Rattle.seen_lock.specs.Histories.{state_after, calls_by, Begins}
 use Rattle.atomic_table.specs.Table.{Splits, Joins}
 use Rattle.seen_lock.specs.Rule.{View, Seated, Kept}
 use Rattle.seen_lock.proofs.StepLemmas.{parts, merges}
-use Rattle.seen_lock.specs.Seats.{LockView, SeatView, Knows, IsTold, seen, own_calls, joined_calls}
+use Rattle.seen_lock.specs.Seats.{LockView, SeatView, Knows, IsTold, SeesMore, seen, own_calls, joined_calls}
 use Rattle.seen_lock.specs.Knowledge.{seen_by, calls_of, others_of, numbers_in, parted, newborn, joined}
-use Rattle.seen_lock.specs.Turns.{TakesTurn, IsLonger, advanced}
+use Rattle.seen_lock.specs.Turns.{TakesTurn, IsLonger, advanced, rested}
 use Rattle.seen_lock.proofs.HistoryLemmas.{state_after-append, calls_by_own, calls_by_other}
 
 module _ {S C : Type 0} (after : S → C → S) (allowed : S → C → Type 0) (first : S) (number made : ℕ) (call : C) where
   pub longer_by_call : (v : View S C) (now : Seated S C) (h g : Held S C) → Knows first number made v → TakesTurn after allowed v now h → allowed first call
-      → g.history.items ≡ h.history.items ++ record { seat = number; call = call } ∷ [] → g.state ≡ after h.state call → length g.history.items < 2 ^ 64
+      → g.history.items ≡ h.history.items ++ record { seat = number; call = call } ∷ [] → g.state ≡ after h.state call → length g.history.items < 2 ^ 63
       → IsLonger after allowed now.0 g
   longer_by_call None now h g knows taken may more state short = absurd knows
   longer_by_call (Some k) now h g knows taken may more state short =
@@ -60,6 +60,26 @@ module _ {S C : Type 0} (after : S → C → S) (allowed : S → C → Type 0) (
             (λ t. let t' = subst (λ l. Contains l (n, calls)) joined_is t in
             ap (calls_by n) seen_is ∙ (calls_by_other n before e (λ q. given.once (subst (λ m. Contains (numbers_in k.others) m) (sym q ∙ sym number_is') (number_there k.others n calls t'))) ∙ given.claimed n calls (Contains-append_right ((k.number, k.mine) ∷ []) k.others (n, calls) t')))
             (contains_cases (old.number, own_calls new) (joined_calls new) (n, calls) c);
+      }
+
+  same_claims : (m n : ℕ) (a b : List C) (x y : List (ℕ × List C)) → m ≡ n → a ≡ b → x ≡ y → (let l : List (ℕ × List C) = (m, a) ∷ x in l) ≡ (n, b) ∷ y
+  same_claims m n a b x y p q r = cc
+
+  pub more_by_refusal : (v w : View S C) (now : Seated S C) (h g : Held S C) (old new : SeatView S C)
+      → Knows first number made v → TakesTurn after allowed v now h → g.history.items ≡ h.history.items → w ≡ rested now.0 g
+      → old.number ≡ number → old.view ≡ v → new.view ≡ w → SeesMore old new
+  more_by_refusal None w now h g old new knows taken same rests number_is old_is new_is = absurd knows
+  more_by_refusal (Some k) w now h g old new knows taken same rests number_is old_is new_is =
+      let given = taken.2 in
+      let view_is = new_is ∙ (rests ∙ ap (λ x. rested x g) (ap (λ m. m.0) taken.1)) in
+      let seen_is : seen new ≡ h.history.items = ap seen_by view_is ∙ same in
+      let own_is : own_calls new ≡ k.mine = ap calls_of view_is in
+      let joined_is : joined_calls new ≡ k.others = ap others_of view_is in
+      let claims_are = same_claims old.number k.number (own_calls new) k.mine (joined_calls new) k.others (number_is ∙ sym knows.number_is) own_is joined_is in
+      record {
+        grown = subst (λ l. Begins l (seen old)) (sym seen_is) (subst (λ l. Begins h.history.items l) (sym (ap seen_by old_is)) given.begins);
+        own = own_is ∙ sym (ap calls_of old_is);
+        listed = λ n calls c. ap (calls_by n) seen_is ∙ given.claimed n calls (subst (λ l. Contains l (n, calls)) claims_are c);
       }
 
 module _ {S C : Type 0} (after : S → C → S) (allowed : S → C → Type 0) (first : S) where

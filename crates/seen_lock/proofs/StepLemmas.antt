@@ -22,6 +22,9 @@ same_or_not i j = ⊎_elim (λ a. inl a.1) (λ a. inr a.1) (eqb_tells i j)
 pub one_there : {X : Type 0} (l : List (Option X)) (i : ℕ) (x y : X) → get_elem? l i ≡ some (Some x) → get_elem? l i ≡ some (Some y) → x ≡ y
 one_there l i x y a b = some_same x y (some-injective (Some x) (Some y) (sym a ∙ b))
 
+no_list : {X : Type 0} (x : List X) → Contains [] x → ⊥
+no_list x c = let e = c.1 in absurd (omega (arith, e))
+
 abbrev items_in : {S C : Type 0} → List (ℕ × Option (Held S C)) → List (Entry C)
 items_in [] = []
 items_in ((k, None) ∷ xs) = []
@@ -53,7 +56,7 @@ module _ {S C : Type 0} (after : S → C → S) (allowed : S → C → Type 0) (
             short = r.short;
             legal = r.legal;
             known = λ i l x. ⊎_elim
-                (λ a. subst (λ z. IsKnown after allowed first log served i z) a.1 record { first_is = mine.first_is; number_is = mine.number_is ∙ sym a.0; begins = mine.begins; claimed = mine.claimed; turned = λ t. absurd (true≢false (sym t ∙ still)) })
+                (λ a. subst (λ z. IsKnown after allowed first log served i z) a.1 record { first_is = mine.first_is; number_is = mine.number_is ∙ sym a.0; begins = mine.begins; claimed = mine.claimed; listened = mine.listened; turned = λ t. absurd (true≢false (sym t ∙ still)) })
                 (λ a. r.known i l a.1)
                 (seat_cases s.views id i k' l x);
             unborn = λ n le. r.unborn n (subst (λ m. m ≤ n) (length-set s.views id (Some k')) le);
@@ -76,7 +79,7 @@ module _ {S C : Type 0} (after : S → C → S) (allowed : S → C → Type 0) (
       let same : i ≡ id = r.queued.tickets i id served l k x here ((r.known i l x).turned turn).0 mine in
       true≢false (sym turn ∙ (ap (λ z. z.turn) (one_there s.views i l k x (ap (λ z. get_elem? s.views z) same ∙ here)) ∙ still))
 
-  is_given : (log : List (Entry C)) (served id : ℕ) (k : Known S C) (h : Held S C) → (Contains (numbers_in k.others) k.number → ⊥) → length log < 2 ^ 64 → AllAllowed allowed first log → IsKnown after allowed first log served id k → IsHeld after allowed first log h → IsGiven after allowed k h
+  is_given : (log : List (Entry C)) (served id : ℕ) (k : Known S C) (h : Held S C) → (Contains (numbers_in k.others) k.number → ⊥) → length log < 2 ^ 63 → AllAllowed allowed first log → IsKnown after allowed first log served id k → IsHeld after allowed first log h → IsGiven after allowed k h
   is_given log served id k h once short legal mine held =
       let e : log ≡ h.history.items = sym held.entries in
       record {
@@ -85,7 +88,7 @@ module _ {S C : Type 0} (after : S → C → S) (allowed : S → C → Type 0) (
         legal = subst (λ l. AllAllowed allowed k.first l) e (subst (λ x. AllAllowed allowed x log) (sym mine.first_is) legal);
         claimed = λ n calls c. ap (calls_by n) (sym e) ∙ (mine.claimed n calls c).0;
         once = once;
-        short = subst (λ l. length l < 2 ^ 64) e short;
+        short = subst (λ l. length l < 2 ^ 63) e short;
       }
 
   pub serves : (slots id t : ℕ) (k : Known S C) → k.ticket ≡ Some t → k.turn ≡ false
@@ -120,7 +123,7 @@ module _ {S C : Type 0} (after : S → C → S) (allowed : S → C → Type 0) (
             short = r.short;
             legal = r.legal;
             known = λ i l x. ⊎_elim
-                (λ a. subst (λ z. IsKnown after allowed first log served i z) a.1 record { first_is = mine.first_is; number_is = mine.number_is ∙ sym a.0; begins = begins_itself log h.history.items (sym is); claimed = λ n calls c. let o = mine.claimed n calls c in (o.0, ap (calls_by n) (sym is) ∙ o.0); turned = λ p. (turn_is, sym is) })
+                (λ a. subst (λ z. IsKnown after allowed first log served i z) a.1 record { first_is = mine.first_is; number_is = mine.number_is ∙ sym a.0; begins = begins_itself log h.history.items (sym is); claimed = λ n calls c. let o = mine.claimed n calls c in (o.0, ap (calls_by n) (sym is) ∙ o.0); listened = mine.listened; turned = λ p. (turn_is, sym is) })
                 (λ a. r.known i l a.1)
                 (seat_cases s.views id i k' l x);
             unborn = λ n le. r.unborn n (subst (λ m. m ≤ n) (length-set s.views id (Some k')) le);
@@ -152,7 +155,7 @@ module _ {S C : Type 0} (after : S → C → S) (allowed : S → C → Type 0) (
       ))
       (eqb_tells (get_or s.words 2 0) (t % 2 ^ 64))
 
-  pub tells : (slots id : ℕ) (k : Known S C) (h : Held S C) (e : Entry C) → k.turn ≡ true → h.history.items ≡ k.seen ++ e ∷ [] → e.seat ≡ k.number → allowed k.first e.call → length h.history.items < 2 ^ 64
+  pub tells : (slots id : ℕ) (k : Known S C) (h : Held S C) (e : Entry C) → k.turn ≡ true → h.history.items ≡ k.seen ++ e ∷ [] → e.seat ≡ k.number → allowed k.first e.call → length h.history.items < 2 ^ 63
       → Allows (Kept after allowed first) slots id (Some k, (0, Some h) ∷ []) 0 (λ n. (n + 1) % 2 ^ 64) (λ found now. Tells (Some k, (0, Some h) ∷ []) now)
   tells slots id k h e turn more own may short s kept wide here bound =
       let log = kept.0 in
@@ -186,7 +189,7 @@ module _ {S C : Type 0} (after : S → C → S) (allowed : S → C → Type 0) (
             short = short;
             legal = subst (λ l. AllAllowed allowed first l) (sym longer) (all_allowed_append allowed first log (e ∷ []) r.legal (subst (λ x. allowed x e.call) mine.first_is may, tt));
             known = λ i l x. ⊎_elim
-                (λ a. subst (λ z. IsKnown after allowed first told served i z) a.1 record { first_is = mine.first_is; number_is = mine.number_is ∙ sym a.0; begins = begins_itself told told refl; claimed = told_claims; turned = λ p. ((mine.turned turn).0, refl) })
+                (λ a. subst (λ z. IsKnown after allowed first told served i z) a.1 record { first_is = mine.first_is; number_is = mine.number_is ∙ sym a.0; begins = begins_itself told told refl; claimed = told_claims; listened = λ g c. begins_trans told log g (begins_append told log (e ∷ []) longer) (mine.listened g c); turned = λ p. ((mine.turned turn).0, refl) })
                 (λ a. let o = r.known i l a.1 in
                 record {
                   first_is = o.first_is;
@@ -194,6 +197,7 @@ module _ {S C : Type 0} (after : S → C → S) (allowed : S → C → Type 0) (
                   begins = begins_trans told log l.seen (begins_append told log (e ∷ []) longer) o.begins;
                   claimed = λ n calls c. let z = o.claimed n calls c in
                       (other n (λ q. a.0 (r.divided.apart i id n l k a.1 here (number_there (claims l) n calls c) (subst (λ m. Contains (numbers k) m) (sym q) answers))) ∙ z.0, z.1);
+                  listened = λ g c. begins_trans told log g (begins_append told log (e ∷ []) longer) (o.listened g c);
                   turned = λ p. absurd (a.0 (r.queued.tickets i id served l k a.1 here (o.turned p).0 (mine.turned turn).0));
                 })
                 (seat_cases s.views id i k' l x);
@@ -233,13 +237,14 @@ module _ {S C : Type 0} (after : S → C → S) (allowed : S → C → Type 0) (
             short = r.short;
             legal = r.legal;
             known = λ i l x. ⊎_elim
-                (λ a. subst (λ z. IsKnown after allowed first log (served + 1) i z) a.1 record { first_is = mine.first_is; number_is = mine.number_is ∙ sym a.0; begins = mine.begins; claimed = mine.claimed; turned = λ p. absurd (true≢false (sym p)) })
+                (λ a. subst (λ z. IsKnown after allowed first log (served + 1) i z) a.1 record { first_is = mine.first_is; number_is = mine.number_is ∙ sym a.0; begins = mine.begins; claimed = mine.claimed; listened = mine.listened; turned = λ p. absurd (true≢false (sym p)) })
                 (λ a. let o = r.known i l a.1 in
                 record {
                   first_is = o.first_is;
                   number_is = o.number_is;
                   begins = o.begins;
                   claimed = o.claimed;
+                  listened = o.listened;
                   turned = λ p. absurd (a.0 (r.queued.tickets i id served l k a.1 here (o.turned p).0 ticket_is));
                 })
                 (seat_cases s.views id i k' l x);
@@ -260,7 +265,7 @@ module _ {S C : Type 0} (after : S → C → S) (allowed : S → C → Type 0) (
       let r = kept.3 in
       let mine = r.known id k here in
       let k' : Known S C = record k { made = k.made + 1 } in
-      let born : Known S C = record { first = k.first; number = k.made + 1; seen = k.seen; mine = []; others = []; made = 0; ticket = None; turn = false } in
+      let born : Known S C = record { first = k.first; number = k.made + 1; seen = k.seen; mine = []; others = []; heard = []; made = 0; ticket = None; turn = false } in
       let answers : Contains (numbers k) 0 = subst (λ n. Contains (numbers k) n) zeroth (head_there k.number (numbers_in k.others)) in
       let count : k.made + 1 ≡ length s.views = r.divided.made id k here answers in
       let size : length (set s.views id (Some k') ++ Some born ∷ []) ≡ length s.views + 1 = length-append (set s.views id (Some k')) (Some born ∷ []) ∙ ap (λ n. n + 1) (length-set s.views id (Some k')) in
@@ -274,7 +279,7 @@ module _ {S C : Type 0} (after : S → C → S) (allowed : S → C → Type 0) (
           short = r.short;
           legal = r.legal;
           known = λ i l x. part_cases s.views id i k' born l
-              (λ e f. subst (λ z. IsKnown after allowed first log served i z) f record { first_is = mine.first_is; number_is = mine.number_is ∙ sym e; begins = mine.begins; claimed = mine.claimed; turned = mine.turned })
+              (λ e f. subst (λ z. IsKnown after allowed first log served i z) f record { first_is = mine.first_is; number_is = mine.number_is ∙ sym e; begins = mine.begins; claimed = mine.claimed; listened = mine.listened; turned = mine.turned })
               (λ e f. r.known i l f)
               (λ e f. subst (λ z. IsKnown after allowed first log served i z) f record {
                 first_is = mine.first_is;
@@ -284,6 +289,7 @@ module _ {S C : Type 0} (after : S → C → S) (allowed : S → C → Type 0) (
                     (λ q. let m = sym (ap (λ z. z.0) q) in (ap (λ z. calls_by z log) m ∙ (none_yet ∙ ap (λ z. z.1) q), ap (λ z. calls_by z k.seen) m ∙ (calls_by_none (k.made + 1) log k.seen mine.begins none_yet ∙ ap (λ z. z.1) q)))
                     (λ t. let x = t.1 in absurd (omega (arith, x)))
                     (contains_cases (k.made + 1, []) [] (n, calls) c);
+                listened = λ g c. absurd (no_list g c);
                 turned = λ p. absurd (true≢false (sym p));
               })
               x;
@@ -303,7 +309,7 @@ module _ {S C : Type 0} (after : S → C → S) (allowed : S → C → Type 0) (
       let served = kept.1 in
       let drawn = kept.2 in
       let r = kept.3 in
-      let both : Known S C = record k { seen = longer k.seen l.seen; others = k.others ++ claims l; made = max k.made l.made } in
+      let both : Known S C = record k { seen = longer k.seen l.seen; others = k.others ++ claims l; heard = k.heard ++ l.seen ∷ l.heard; made = max k.made l.made } in
       let there : get_elem? s.views gone ≡ some (Some l) = sym (set_else s.views id gone (Some both) apart) ∙ after_set in
       let mine = r.known id k here in
       let other = r.known gone l there in
@@ -326,6 +332,7 @@ module _ {S C : Type 0} (after : S → C → S) (allowed : S → C → Type 0) (
                     (λ p. let o = mine.claimed n calls p in (o.0, sym (calls_by_between n log (longer k.seen l.seen) k.seen long.whole long.left (o.0 ∙ sym o.1)) ∙ o.0))
                     (λ p. let o = other.claimed n calls p in (o.0, sym (calls_by_between n log (longer k.seen l.seen) l.seen long.whole long.right (o.0 ∙ sym o.1)) ∙ o.0))
                     (Contains-append_cases (claims k) (claims l) (n, calls) c);
+                listened = λ g c. ⊎_elim (mine.listened g) (λ p. ⊎_elim (λ q. subst (λ h. Begins log h) q other.begins) (other.listened g) (contains_cases l.seen l.heard g p)) (Contains-append_cases k.heard (l.seen ∷ l.heard) g c);
                 turned = λ p. absurd (true≢false (sym p ∙ still));
               })
               (λ e f g. r.known i m g)
@@ -350,7 +357,7 @@ module _ {S C : Type 0} (after : S → C → S) (allowed : S → C → Type 0) (
   pub opens : (xs : List (Option (Held S C))) (h : Held S C) → xs ≡ Some h ∷ [] → h.history.items ≡ [] → h.state ≡ first
       → Kept after allowed first (opening (0 ∷ 0 ∷ 0 ∷ []) xs (first_view first))
   opens xs h one none_yet state =
-      let k : Known S C = record { first = first; number = 0; seen = []; mine = []; others = []; made = 0; ticket = None; turn = false } in
+      let k : Known S C = record { first = first; number = 0; seen = []; mine = []; others = []; heard = []; made = 0; ticket = None; turn = false } in
       let Only : (i : ℕ) (l : Known S C) → get_elem? (Some k ∷ []) i ≡ some (Some l) → (i ≡ 0) × (k ≡ l) = λ i l x. let e = only_view (Some k) (Some l) i x in (e.0, some_same k l e.1) in
       subst (λ ys. Kept after allowed first (opening (0 ∷ 0 ∷ 0 ∷ []) ys (first_view first))) (sym one) (
         [],
@@ -361,7 +368,7 @@ module _ {S C : Type 0} (after : S → C → S) (allowed : S → C → Type 0) (
           homes = refl;
           short = omega arith;
           legal = tt;
-          known = λ i l x. let e = Only i l x in subst (λ z. IsKnown after allowed first [] 0 i z) e.1 record { first_is = refl; number_is = sym e.0; begins = refl; claimed = λ n calls c. ⊎_elim (λ q. let m = ap (λ z. z.1) q in (m, m)) (λ t. let x = t.1 in absurd (omega (arith, x))) (contains_cases (0, []) [] (n, calls) c); turned = λ p. absurd (true≢false (sym p)) };
+          known = λ i l x. let e = Only i l x in subst (λ z. IsKnown after allowed first [] 0 i z) e.1 record { first_is = refl; number_is = sym e.0; begins = refl; claimed = λ n calls c. ⊎_elim (λ q. let m = ap (λ z. z.1) q in (m, m)) (λ t. let x = t.1 in absurd (omega (arith, x))) (contains_cases (0, []) [] (n, calls) c); listened = λ g c. absurd (no_list g c); turned = λ p. absurd (true≢false (sym p)) };
           unborn = λ n le. refl;
           divided = record {
             apart = λ i j n a b x y p q. (Only i a x).0 ∙ sym (Only j b y).0;

@@ -69,13 +69,15 @@ module _ {S C : Type 0} (after : S → C → S) (allowed : S → C → Type 0) (
     pub begins : Begins history k.seen
     -- the calls for which the seat answers are those of the history, and the seat has seen them
     pub claimed : (n : ℕ) (calls : List C) → Contains (claims k) (n, calls) → (calls_by n history ≡ calls) × (calls_by n k.seen ≡ calls)
+    -- so are the histories that the seats joined into it had seen
+    pub listened : (h : List (Entry C)) → Contains k.heard h → Begins history h
     pub turned : k.turn ≡ true → (k.ticket ≡ Some served) × (k.seen ≡ history)
 
   -- after this history, with so many tickets drawn and served
   pub record IsKept (history : List (Entry C)) (served drawn : ℕ) (s : Lock S C) : Type 0 where
     pub words : s.words ≡ length history ∷ (drawn % 2 ^ 64) ∷ (served % 2 ^ 64) ∷ []
     pub homes : length s.homes ≡ 1
-    pub short : length history < 2 ^ 64
+    pub short : length history < 2 ^ 63
     pub legal : AllAllowed allowed first history
     pub known : (id : ℕ) (k : Known S C) → get_elem? s.views id ≡ some (Some k) → IsKnown history served id k
     pub unborn : (n : ℕ) → length s.views ≤ n → calls_by n history ≡ []
@@ -99,7 +101,7 @@ pub record IsGiven {S C : Type 0} (after : S → C → S) (allowed : S → C →
   pub legal : AllAllowed allowed k.first h.history.items
   pub claimed : (n : ℕ) (calls : List C) → Contains (claims k) (n, calls) → calls_by n h.history.items ≡ calls
   pub once : Contains (numbers_in k.others) k.number → ⊥
-  pub short : length h.history.items < 2 ^ 64
+  pub short : length h.history.items < 2 ^ 63
 
 abbrev pub Takes : {S C : Type 0} → (S → C → S) → (S → C → Type 0) → Known S C → Seated S C → Bool → Seated S C → Type 0
 Takes {S} {C} after allowed k before is_served now =

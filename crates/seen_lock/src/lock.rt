@@ -1,6 +1,6 @@
-ghost use Rattle.std.specs.Prelude.{◌≡◌, ◌+◌, ◌^◌, ◌<◌, [], ◌∷◌, ◌++◌, max, IfOk, OnErr};
+ghost use Rattle.std.specs.Prelude.{◌≡◌, ◌+◌, ◌^◌, ◌<◌, [], ◌∷◌, ◌++◌, max, IfOk, OnOk, OnErr};
 ghost use Rattle.seen_lock.specs.Histories.{longer};
-ghost use Rattle.seen_lock.specs.Seats.{IsSeatOf, SameSeat, IsTold, SeesMore, AllJoined, IsClosed, seen, own_calls, joined_calls};
+ghost use Rattle.seen_lock.specs.Seats.{IsSeatOf, SameSeat, IsTold, SeesMore, AllJoined, IsClosed, seen, own_calls, joined_calls, joined_seen};
 
 use crate::held::{Held, add_call};
 use crate::knowledge::Known;
@@ -62,7 +62,7 @@ impl<O: Object> SeenLock<O> {
         ensures first { IfOk result (λ r. r.0.first ≡ state) }
         ensures seat { IfOk result (λ r. IsSeatOf r.0 r.1) }
         ensures number { IfOk result (λ r. (r.1.number ≡ 0) × (r.1.made ≡ 0)) }
-        ensures nothing_seen { IfOk result (λ r. (seen r.1 ≡ []) × (own_calls r.1 ≡ []) × (joined_calls r.1 ≡ [])) }
+        ensures nothing_seen { IfOk result (λ r. (seen r.1 ≡ []) × (own_calls r.1 ≡ []) × (joined_calls r.1 ≡ []) × (joined_seen r.1 ≡ [])) }
     {
         let first = Snapshot::of(&state);
         let mut slots = Vec::with_capacity(alloc, 1)?;
@@ -116,17 +116,18 @@ impl<O: Object> SeenLock<O> {
     }
 
     /// Makes the seat with the next number: it has seen what seat 0 has seen, and has made no calls. It needs no
-    /// memory.
+    /// memory; after an error the seat would be as before, its count of seats too.
     pub fn split(&self, seat: &mut SeenSeat<O>) -> Result<SeenSeat<O>, AllocError>
         requires seat { IsSeatOf self.now seat.old }
         requires zero { seat.old.number ≡ 0 }
         requires room { seat.old.made + 1 < 2 ^ 32 }
         ensures seat { IsSeatOf self.now seat.new }
-        ensures made { (seat.new.number ≡ 0) × (seat.new.made ≡ seat.old.made + 1) }
-        ensures same { (seen seat.new ≡ seen seat.old) × (own_calls seat.new ≡ own_calls seat.old) × (joined_calls seat.new ≡ joined_calls seat.old) }
+        ensures made { OnOk result ((seat.new.number ≡ 0) × (seat.new.made ≡ seat.old.made + 1)) }
+        ensures refused { OnErr result (seat.new ≡ seat.old) }
+        ensures same { (seen seat.new ≡ seen seat.old) × (own_calls seat.new ≡ own_calls seat.old) × (joined_calls seat.new ≡ joined_calls seat.old) × (joined_seen seat.new ≡ joined_seen seat.old) }
         ensures new { IfOk result (λ s. IsSeatOf self.now s) }
         ensures number { IfOk result (λ s. (s.number ≡ seat.old.made + 1) × (s.made ≡ 0)) }
-        ensures sees { IfOk result (λ s. (seen s ≡ seen seat.old) × (own_calls s ≡ []) × (joined_calls s ≡ [])) }
+        ensures sees { IfOk result (λ s. (seen s ≡ seen seat.old) × (own_calls s ≡ []) × (joined_calls s ≡ []) × (joined_seen s ≡ [])) }
     {
         let number = seat.made + 1;
         let seat_made = self.table.shared.split_seat::<Part>(&mut seat.seat);
@@ -148,6 +149,7 @@ impl<O: Object> SeenLock<O> {
         ensures longer { seen seat.new ≡ longer (seen seat.old) (seen other) }
         ensures own { own_calls seat.new ≡ own_calls seat.old }
         ensures joined { joined_calls seat.new ≡ joined_calls seat.old ++ (other.number, own_calls other) ∷ joined_calls other }
+        ensures heard { joined_seen seat.new ≡ joined_seen seat.old ++ seen other ∷ joined_seen other }
     {
         let SeenSeat {
             seat: joined,
@@ -162,7 +164,7 @@ impl<O: Object> SeenLock<O> {
     pub fn close(self, seat: SeenSeat<O>) -> (Vec<Entry<O::Call>>, O::State)
         requires seat { IsSeatOf self seat }
         requires all { AllJoined seat }
-        ensures { IsClosed O.after self seat result.0.items result.1 }
+        ensures { IsClosed O.after O.allowed self seat result.0.items result.1 }
     {
         let SeenLock { table } = self;
         let SeenSeat {
