@@ -4,7 +4,7 @@ ghost use Rattle.replica_cell.specs.Cells.{CellView, empty, kept, failed, put_an
 
 use crate::answer::{Look, Put};
 use crate::form::Form;
-use flow_id::Key;
+use flow_id::{Key, Keyed};
 use flow_record::Record;
 use indexmap::IndexMap;
 use std::alloc::{AllocError, Global};
@@ -13,7 +13,7 @@ use std::marker::Model;
 /// One replica's records, each as its byte form, in the order of storing.
 #[derive(Drop)]
 pub struct Cell {
-    forms: IndexMap<Key, Form>,
+    forms: IndexMap<Key, Form, Keyed>,
     living: bool,
     faults: u64,
 }
@@ -29,12 +29,19 @@ impl Model for Cell {
 }
 
 impl Cell {
-    /// An empty living cell. It takes no memory yet.
+    /// An empty living cell, whose keys no stranger chooses. It takes no memory yet.
     pub fn new(alloc: Global) -> Self
         ensures { result ≡ record { replica = empty; faults = 0 } }
     {
+        Cell::keyed(alloc, &[0; 32])
+    }
+
+    /// An empty living cell that hashes its keys by this secret. It takes no memory yet.
+    pub fn keyed(alloc: Global, secret: &[u8; 32]) -> Self
+        ensures { result ≡ record { replica = empty; faults = 0 } }
+    {
         Cell {
-            forms: IndexMap::new(alloc),
+            forms: IndexMap::with_hasher(alloc, Keyed::by(secret)),
             living: true,
             faults: 0,
         }

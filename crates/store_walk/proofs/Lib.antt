@@ -3,5 +3,3 @@ pub mod Late
 pub mod Origins
 pub mod Runs
 pub mod Saids
-pub mod Walked
-pub mod Whole

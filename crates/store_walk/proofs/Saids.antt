@@ -6,7 +6,7 @@ use Rattle.flow_record.specs.Records.{asked_key, fits_key}
 use Rattle.flow_record.specs.declared.record.Record.{Record}
 use Rattle.replica_cell.specs.Walks.{CarriedFits, standing_by, standing}
 use Rattle.replica_cell.specs.declared.walk.Walk.{Walk}
-use Rattle.store_walk.specs.Decides.{SaidFits}
+use Rattle.store_walk.specs.Steps.{SaidFits}
 
 by : (k : Key) (left met : Bool) (o : Option Record) → IfSome o (λ r. IsTrue (fits_key k r)) → SaidFits k (standing_by left met o)
 by k left true None fits = tt

@@ -1,17 +1,15 @@
 -- What holds after every run of a store, whatever is asked and whichever cells fail.
-use Rattle.std.specs.Prelude.{◌≡◌, ◌↔◌, ℕ, ◌≤◌, false, Option, Some, None, List, [], ◌∷◌, ◌++◌, length, slice_get, replicate, Contains, if◌then◌else◌}
+use Rattle.std.specs.Prelude.{◌≡◌, ◌↔◌, ℕ, ◌≤◌, false, Option, Some, None, List, [], ◌∷◌, ◌++◌, length, slice_get, Contains, if◌then◌else◌}
 use Rattle.std.specs.List.{AllByRecursion}
 use Rattle.flow_id.specs.declared.key.Key.{Key}
 use Rattle.flow_record.specs.Records.{asked_key}
 use Rattle.flow_record.specs.declared.record.Record.{Record}
-use Rattle.flow_record.specs.declared.record.Ask.{Ask}
 use Rattle.flow_record.specs.declared.record.Ask.TheVariants.{Add}
 use Rattle.replica_cell.specs.Cells.{Replica, kept}
 use Rattle.replica_cell.specs.Stores.{InOrder, Lives, word}
 use Rattle.replica_cell.specs.Walks.{Agrees, IsGet}
 use Rattle.replica_cell.specs.declared.walk.Stepped.TheVariants.{Going, Decided, Absent, Down}
-use Rattle.store_walk.specs.Decides.{decided}
-use Rattle.store_walk.specs.Runs.{Event, Asked, Store, run, after}
+use Rattle.store_walk.specs.Runs.{Event, Asked, Store, after}
 use Rattle.store_walk.specs.Runs.Event.{Start, Step}
 
 -- an ask of this key ended with this record
@@ -103,13 +101,3 @@ abbrev pub DownCause : Type 0
 DownCause =
     (count : ℕ) (events : List Event) (n : ℕ) (a : Asked) → slice_get (after count events).asks n ≡ Some a
     → (a.said ≡ Down) ↔ ((length a.seen ≡ count) × AllByRecursion IsFailed a.seen)
-
--- ---- a whole ask
--- an ask that makes all its steps one after the other is a part of a run
-abbrev pub WholeAskLaw : Type 0
-WholeAskLaw =
-    (s : Store) (ask : Ask)
-    → let n = length s.asks in
-    let end = run (Start ask ∷ replicate (length s.cells) (Step n)) s in
-    (end.cells ≡ (decided s.cells ask).0)
-    × ((a : Asked) × (end.asks ≡ s.asks ++ a ∷ []) × (a.walk.ask ≡ ask) × (a.said ≡ (decided s.cells ask).1))

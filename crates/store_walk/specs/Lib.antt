@@ -1,3 +1,3 @@
-pub mod Decides
 pub mod Laws
 pub mod Runs
+pub mod Steps

@@ -1,4 +1,4 @@
-ghost use Rattle.store_walk.specs.Laws.{OrderLaw, OriginOnCells, OriginInWalks, OriginOfDecided, AgreementLaw, WordLaw, WordStays, LateLaw, AbsentLaw, AbsentCause, DownCause, WholeAskLaw};
+ghost use Rattle.store_walk.specs.Laws.{OrderLaw, OriginOnCells, OriginInWalks, OriginOfDecided, AgreementLaw, WordLaw, WordStays, LateLaw, AbsentLaw, AbsentCause, DownCause};
 
 /// What holds after every run of a store.
 pub fn store_laws()
@@ -13,9 +13,8 @@ pub fn store_laws()
     ensures absence { AbsentLaw }
 {}
 
-/// Where an ask of a run ends so, and that a whole ask is a part of a run.
+/// Exactly where an ask of a run ends with absent, and exactly where with down.
 pub fn ask_laws()
     ensures absent { AbsentCause }
     ensures down { DownCause }
-    ensures whole { WholeAskLaw }
 {}

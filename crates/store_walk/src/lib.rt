@@ -4,12 +4,10 @@
 
 mod laws;
 mod step;
-mod whole_ask;
 
 pub use laws::{ask_laws, store_laws};
 pub use replica_cell::{Stepped, Walk, start};
 pub use step::{Noted, noted_step, undo_step, walk_step};
-pub use whole_ask::decide;
 
 #[cfg(test)]
 mod tests;

@@ -2,7 +2,7 @@ ghost use Rattle.std.specs.Prelude.{◌≡◌, ◌<◌, ◌^◌, List, length, I
 ghost use Rattle.flow_record.specs.Records.{asked_key};
 ghost use Rattle.replica_cell.specs.Cells.{Replica, taken_back};
 ghost use Rattle.replica_cell.specs.Walks.{CarriedFits, CarriesAsAsked, EndsAbsent, EndsDown, standing, changed, walk_after, cells_after, views_after, replicas, stores};
-ghost use Rattle.store_walk.specs.Decides.{SaidFits};
+ghost use Rattle.store_walk.specs.Steps.{SaidFits, view_taken_back};
 
 use replica_cell::{Cell, Stepped, Walk};
 use std::alloc::AllocError;
@@ -75,6 +75,7 @@ pub fn walk_step(walk: &mut Walk, cells: &mut [Cell]) -> Result<Stepped, AllocEr
 pub fn undo_step(walk: &mut Walk, cells: &mut [Cell], before: &Walk, stored: bool)
     requires { before.now.place < length cells.old }
     ensures walk { walk.new ≡ before.now }
+    ensures views { cells.new ≡ (if stored then changed before.now.place (view_taken_back (asked_key before.now.ask)) cells.old else cells.old) }
     ensures back { replicas cells.new ≡ (if stored then changed before.now.place (taken_back (asked_key before.now.ask)) (replicas cells.old) else replicas cells.old) }
     // Where the cells are what one step of `before` made of some cells, and `stored` says whether it stored, they are those again.
     ensures cells { (was : List Replica) → replicas cells.old ≡ cells_after before.now was → stored ≡ stores before.now was → replicas cells.new ≡ was }

@@ -2,7 +2,7 @@ ghost use Rattle.std.specs.Prelude.{◌≡◌, ◌<◌, ◌^◌, length, IfOk, O
 ghost use Rattle.flow_record.specs.Records.{is_syn};
 ghost use Rattle.replica_cell.specs.Walks.{CarriedFits, CarriesAsAsked};
 
-use crate::{Stepped, Walk, decide, start, undo_step, walk_step};
+use crate::{Stepped, Walk, start, undo_step, walk_step};
 use flow_id::{Flow, Key};
 use flow_record::{Ask, Record};
 use replica_cell::Cell;
@@ -77,20 +77,6 @@ fn all_cells_failed_is_down_at_the_last(rt: HostRuntime) -> Result<(), Fail> {
     assert_eq!(rt; step(&mut walk, &mut cells)?, Stepped::Going);
     assert_eq!(rt; step(&mut walk, &mut cells)?, Stepped::Down);
     assert_eq!(rt; cells[2].faults(), 1);
-    Ok(())
-}
-
-#[test]
-fn a_whole_ask_is_answered(rt: HostRuntime) -> Result<(), Fail> {
-    let alloc = rt.alloc();
-    let mut cells = [Cell::new(alloc), Cell::new(alloc), Cell::new(alloc)];
-    let key = Key::Syn(flow(40000));
-    assert_eq!(rt; decide(&mut cells, Ask::Get(key))?, Stepped::Absent);
-    let first = Stepped::Decided(syn(1000));
-    assert_eq!(rt; decide(&mut cells, Ask::Add(key, syn(1000)))?, first);
-    assert_eq!(rt; decide(&mut cells, Ask::Add(key, syn(2000)))?, first);
-    cells[0].fail();
-    assert_eq!(rt; decide(&mut cells, Ask::Get(key))?, first);
     Ok(())
 }
 

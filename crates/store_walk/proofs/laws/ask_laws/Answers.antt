@@ -1,5 +1,4 @@
 use Rattle.store_walk.proofs.Causes.{absent_cause, down_cause}
-use Rattle.store_walk.proofs.Whole.{whole_ask_law}
 use Rattle.store_walk.proofs.laws.ask_laws.Goals as goal
 
 pub returns-clause-absent : goal.returns-clause-absent
@@ -7,6 +6,3 @@ returns-clause-absent c = absent_cause
 
 pub returns-clause-down : goal.returns-clause-down
 returns-clause-down c = down_cause
-
-pub returns-clause-whole : goal.returns-clause-whole
-returns-clause-whole c = whole_ask_law

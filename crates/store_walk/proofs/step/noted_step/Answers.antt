@@ -11,7 +11,7 @@ use Rattle.replica_cell.specs.declared.walk.Walk.{Walk}
 use Rattle.replica_cell.proofs.Moves.{step_absent, step_down, step_carries}
 use Rattle.replica_cell.proofs.Steps.{at_ask}
 use Rattle.replica_cell.proofs.Views.{set-changed, replicas-views_after, get-replicas}
-use Rattle.store_walk.specs.Decides.{SaidFits}
+use Rattle.store_walk.specs.Steps.{SaidFits}
 use Rattle.store_walk.proofs.Saids.{said_fits}
 use Rattle.store_walk.proofs.step.noted_step.Goals as goal
 

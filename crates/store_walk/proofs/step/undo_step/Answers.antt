@@ -6,6 +6,7 @@ use Rattle.replica_cell.specs.Walks.{changed, cells_after, replicas, stores}
 use Rattle.replica_cell.specs.declared.walk.Walk.{Walk}
 use Rattle.replica_cell.proofs.Undoes.{step_back, step_kept}
 use Rattle.replica_cell.proofs.Views.{set-changed, replicas-changed}
+use Rattle.store_walk.specs.Steps.{view_taken_back}
 use Rattle.store_walk.proofs.step.undo_step.Goals as goal
 use Rattle.store_walk.proofs.step.undo_step.Goals.{then-stored, else-stored}
 
@@ -33,3 +34,18 @@ undone w false was is = step_kept w was (sym is)
 pub returns-clause-cells : goal.returns-clause-cells
 returns-clause-cells c was is stored =
     returns-clause-back c ∙ ap (back c.args.before.now c.args.stored) is ∙ undone c.args.before.now c.args.stored was stored
+
+-- the same of the cells with their counts
+abbrev view_back : Walk → Bool → List CellView → List CellView
+view_back w stored cells = if stored then changed w.place (view_taken_back (asked_key w.ask)) cells else cells
+
+pub returns-clause-views : goal.returns-clause-views
+returns-clause-views c =
+    let w : Walk = c.args.before.now in
+    let all : List CellView = c.args.cells.now in
+    elim c.if-stored.branch [
+      | then-stored v ↦
+          let written = set-changed (view_taken_back v.key.result) all w.place v.index-cells-before.result v.take_back.new.self c.requires v.take_back.ensures in
+          v.cells-is ∙ written ∙ ap (λ k. changed w.place (view_taken_back k) all) v.key.ensures ∙ sym (ap (λ b. view_back w b all) v.if-stored.true)
+      | else-stored v ↦ v.cells-is ∙ sym (ap (λ b. view_back w b all) v.if-stored.false)
+    ]
