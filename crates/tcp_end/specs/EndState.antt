@@ -31,9 +31,17 @@ server_end first peer = record { first = first; written = []; closed = false; ac
 abbrev pub stream_end : List ℕ → Bool → ℕ
 stream_end written closed = length written + (if closed then 2 else 1)
 
--- the position that is expected next of the peer whose SYN was taken (RCV.NXT)
+-- the position that is expected next of the peer whose SYN was taken
 abbrev pub expected : EndState → ℕ
 expected e = stream_end e.received e.saw_close
+
+abbrev pub next_expected_of : Option Num → EndState → ℕ
+next_expected_of None e = 0
+next_expected_of (Some peer) e = expected e
+
+-- the position that is expected next (RCV.NXT), which is that of the peer's SYN while the peer is not known
+abbrev pub next_expected : EndState → ℕ
+next_expected e = next_expected_of e.peer e
 
 abbrev pub written_more : EndState → List ℕ → EndState
 written_more e bytes = record e { written = e.written ++ bytes }

@@ -1,6 +1,6 @@
 ghost use Rattle.std.specs.Prelude.{◌≡◌, ◌≤◌, ◌-◌, ◌^◌, ◌||◌, ◌==◌, ◌↔◌, [], IsTrue, IfOk, OnOk, OnErr, Err, Some};
 ghost use Rattle.std.specs.Option.{option_copied};
-ghost use Rattle.tcp_end.specs.EndState.{client_end, server_end, expected, stream_end, written_more, closed_end, dead_end, is_close_acknowledged};
+ghost use Rattle.tcp_end.specs.EndState.{client_end, server_end, expected, next_expected, stream_end, written_more, closed_end, dead_end, is_close_acknowledged};
 ghost use Rattle.tcp_end.specs.Taking.{answers_syn, acked_after, new_bytes, taken};
 ghost use Rattle.tcp_end.specs.Sending.{send_of, reset_of, syn_of, syn_ack_of, stream_segment, next_bytes, reaches_close};
 
@@ -196,6 +196,24 @@ impl End {
         ensures { result ≡ self.now.dead }
     {
         self.dead
+    }
+
+    /// Whether its own stream has ended. It takes no memory.
+    pub fn closed(&self) -> bool
+        ensures { result ≡ self.now.closed }
+    {
+        self.closed
+    }
+
+    /// The position that is expected next of the peer's stream, 0 while the peer is not known. It takes no memory.
+    pub fn next_expected(&self) -> u64
+        ensures value { result ≡ next_expected self.now }
+        ensures bound { result ≤ 2 ^ 64 - 2 ^ 31 }
+    {
+        match self.peer {
+            Some(_) => self.expected(),
+            None => 0,
+        }
     }
 
     /// What is known of each end: nothing is acknowledged behind its stream. It does nothing.

@@ -84,6 +84,8 @@ fn only_what_comes_next_is_received(rt: HostRuntime) -> Result<(), Fail> {
     end.take(&head(1000, 5001, ACK + FIN), b"-abc")?;
     assert_eq!(rt; end.received(), b"abc".as_slice());
     assert!(rt; end.saw_close());
+    // Behind the SYN, the three bytes and the close.
+    assert_eq!(rt; end.next_expected(), 5);
     // Behind the close nothing comes.
     end.take(&head(1005, 5001, ACK), b"d")?;
     assert_eq!(rt; end.received(), b"abc".as_slice());
@@ -107,7 +109,9 @@ fn acknowledgments_count_where_the_flag_is_set_and_up_to_the_end(
         end.send(9)?.map(|sent| (sent.position, sent.seq, sent.ack)),
         Some((2, Num(5002), Num(1001)))
     );
+    assert!(rt; !end.closed());
     end.close();
+    assert!(rt; end.closed());
     assert_eq!(rt; end.write(b"z"), Err(EndFault::Closed));
     assert_eq!(rt;
         end.send(9)?.map(|sent| (sent.position, sent.flags)),
@@ -126,6 +130,8 @@ fn acknowledgments_count_where_the_flag_is_set_and_up_to_the_end(
 fn resets_end_it(rt: HostRuntime) -> Result<(), Fail> {
     let mut client = End::client(rt.alloc(), Num(1000));
     client.known();
+    // The peer's SYN is expected, at position 0.
+    assert_eq!(rt; client.next_expected(), 0);
     client.take(&head(7000, 1002, SYN + ACK), b"")?;
     let reset = client
         .abort()
