@@ -5,3 +5,4 @@ pub mod Jobs
 pub mod Moves
 pub mod Phases
 pub mod Table
+pub mod TableLaws

@@ -206,7 +206,7 @@ impl Job {
         ensures forged { forged.new ≡ forged.old }
     {
         let mut items = Vec::with_capacity(self.alloc, 1)?;
-        let forged = Num(forged.forged(&flow));
+        let forged = Num(forged.forged(&flow)?);
         let seg = self.take_segment();
         let passed = match from {
             Side::Client => to_server(setup, seg, forged, &opened),
