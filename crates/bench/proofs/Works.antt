@@ -23,7 +23,7 @@ use Rattle.rule_table.specs.Setups.{SetupView, IsSetup}
 use Rattle.bench.specs.Bench.{answer_of}
 use Rattle.bench.specs.Desks.{CellsKnown, WalkKnown}
 use Rattle.bench.specs.declared.desk.Work.{Work}
-use Rattle.bench.proofs.Asks.{asked_is}
+use Rattle.job_core.proofs.Asks.{asked_is}
 use Rattle.bench.proofs.Fits.{asked_fit}
 use Rattle.bench.specs.JobLaws.{IsRecordOf}
 
@@ -57,5 +57,5 @@ pub next_fits : (setup : SetupView) (job : JobView) (a : Answer) (held : List �
     → m ≡ move_after setup job a held → m.next ≡ next.Ask ask → FitsItsKey ask
 next_fits setup job a held m ask good same is =
     let asks : (move_after setup job a held).next ≡ next.Ask ask = sym (ap (λ (x : Move). x.next) same) ∙ is in
-    asked_fit setup job.instance job.segment held job.aim (job.answers ++ a ∷ []) ask good
+    asked_fit setup job.instance job.segment held job.aim (job.answers ++ a ∷ []) _ ask good
     (asked_is setup job.instance job.aim job.segment (job.answers ++ a ∷ []) held ask asks)

@@ -1,4 +1,5 @@
 pub mod Bench
+pub mod Blocks
 pub mod Calls
 pub mod Desks
 pub mod Forwarding
@@ -7,4 +8,5 @@ pub mod Incoming
 pub mod Inputs
 pub mod JobLaws
 pub mod Laws
+pub mod MoveLaws
 pub mod Prepared
