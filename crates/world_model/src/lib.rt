@@ -1,0 +1,35 @@
+//! The balancer between its clients and servers: the world in which any segment is lost, repeated or reordered, and what
+//! holds after every list of its events.
+#![tactic(auto)]
+
+mod aborting;
+mod at;
+mod client;
+mod client_list;
+mod crashing;
+mod delivery;
+mod enabled;
+mod event;
+mod failing;
+mod laws;
+mod laying;
+mod posted;
+mod posting;
+mod route;
+mod server_end;
+mod server_ends;
+mod serving;
+mod shard;
+mod state;
+mod swapping;
+#[cfg(test)]
+mod tests;
+mod world;
+
+pub use at::At;
+pub use client::ClientSpec;
+pub use event::{Event, Happened};
+pub use laws::{first_flow, headline, steps_are_events, streams_agree, wrong_worlds};
+pub use posted::{Posted, Sender};
+pub use server_end::ServerEnd;
+pub use world::World;

@@ -1,0 +1,387 @@
+ghost use Rattle.std.specs.Prelude.{◌≡◌, ◌∷◌, [], true};
+ghost use Rattle.world_model.specs.Clients.{AreClients};
+
+use crate::enabled::is_within;
+use crate::{At, ClientSpec, Event, Happened, World};
+use rule_table::{Choices, Rule, Server, Service, Setup, Sizes, Text};
+use seq_space::Num;
+use std::alloc::{AllocError, Global};
+use std::test::Fail;
+use tcp_segment::{ACK, Bytes, FIN, Head, Options, PSH, RST, SYN, Segment};
+
+const CLIENT: ClientSpec = ClientSpec {
+    address: 0xc000_0207,
+    port: 40000,
+    isn: Num(1000),
+};
+
+const SIZES: Sizes = Sizes {
+    instances: 2,
+    replicas: 3,
+    copies: 3,
+    shards: 4,
+    secret: [
+        0, 1, 2, 3, 4, 5, 6, 7, 8, 9, 10, 11, 12, 13, 14, 15, 16, 17, 18, 19, 20, 21, 22, 23, 24,
+        25, 26, 27, 28, 29, 30, 31,
+    ],
+};
+
+const SERVICE: Service = Service {
+    number: 0,
+    address: 0xc633_640a,
+    port: 80,
+};
+
+const SERVER: Server = Server {
+    address: 0x0a00_0001,
+    port: 8080,
+};
+
+const HEAD: &[u8] =
+    b"GET /cart/1 HTTP/1.1\r\nHost: Shop.Example:80\r\nCookie: id=9; beta=1\r\n\r\n";
+
+const ANSWER: [u8; 200] = [7; 200];
+
+/// The shard of the client's flow.
+const SHARD: u8 = 3;
+
+/// The first port by which the client's flow asks the first server.
+const PORT: u16 = 17163;
+
+const HERE: At = At::Client(0);
+
+const THERE: At = At::Server {
+    server: 0,
+    port: PORT,
+};
+
+/// An end that is not there.
+const NOWHERE: At = At::Server {
+    server: 1,
+    port: PORT,
+};
+
+/// Two instances, three replicas, each of which has every record, four shards and one server, to which the requests for the
+/// cart go.
+fn shop(alloc: Global) -> Result<Setup, AllocError> {
+    let mut servers = Vec::new(alloc);
+    servers.push(SERVER)?;
+    let mut rules = Vec::new(alloc);
+    rules.push(Rule {
+        host: None,
+        path: Some(Text::new(Vec::from_slice(alloc, b"/cart")?)),
+        cookie: None,
+        to: Choices::new(Vec::from_slice(alloc, &[(0, 1)])?),
+    })?;
+    Ok(Setup::make(SIZES, SERVICE, servers, rules))
+}
+
+/// Whether the client is neither the service nor a server.
+fn is_client(setup: &Setup) -> bool
+    ensures { result ≡ true → AreClients setup.now (CLIENT ∷ []) }
+{
+    setup.service().address != CLIENT.address
+        && setup.server_at(CLIENT.address, CLIENT.port).is_none()
+}
+
+/// A world with one client.
+fn world(alloc: Global) -> Result<World, Fail> {
+    let setup = shop(alloc)?;
+    if !is_client(&setup) {
+        return Err("the client is the service, or a server".into());
+    }
+    let mut clients = Vec::new(alloc);
+    clients.push(CLIENT)?;
+    Ok(World::new(alloc, setup, clients)?)
+}
+
+/// What is to happen, as a value that can be copied: what is written is empty, and the first server is the one that refuses.
+#[derive(Clone, Copy)]
+enum Act {
+    Open(u32),
+    Write(At),
+    Close(At),
+    Send(At, u16),
+    Abort(At),
+    Deliver(At, u64),
+    Refuse(u64),
+    /// A segment from this address and port to this port of the service, with these flags.
+    Stray(u32, u16, u16, u8),
+    Take(u16, u64),
+    Step(u16, u8),
+    Crash(u16),
+    Fail(u8),
+}
+
+/// A segment without data to this port of the service.
+fn segment(alloc: Global, source: u32, source_port: u16, target_port: u16, flags: u8) -> Segment {
+    Segment {
+        source,
+        target: SERVICE.address,
+        head: Head {
+            source_port,
+            target_port,
+            seq: Num(5),
+            ack: Num(0),
+            flags,
+            window: 64240,
+            urgent: 0,
+            options: Options::none(),
+        },
+        body: Bytes::new(Vec::new(alloc)),
+    }
+}
+
+fn event_of(alloc: Global, act: Act) -> Event {
+    match act {
+        Act::Open(client) => Event::Open(client),
+        Act::Write(at) => Event::Write(at, Bytes::new(Vec::new(alloc))),
+        Act::Close(at) => Event::Close(at),
+        Act::Send(at, size) => Event::Send(at, size),
+        Act::Abort(at) => Event::Abort(at),
+        Act::Deliver(at, index) => Event::TakeAt {
+            at,
+            index,
+            isn: Num(70000),
+        },
+        Act::Refuse(index) => Event::Refuse {
+            server: 0,
+            port: PORT,
+            index,
+        },
+        Act::Stray(source, port, target, flags) => {
+            Event::Stray(segment(alloc, source, port, target, flags))
+        }
+        Act::Take(instance, index) => Event::Take { instance, index },
+        Act::Step(instance, shard) => Event::Step { instance, shard },
+        Act::Crash(instance) => Event::Crash { instance },
+        Act::Fail(replica) => Event::Fail { replica },
+    }
+}
+
+/// Makes each of these events, and fails at the first that is not answered so.
+fn all_answer(
+    alloc: Global,
+    world: &mut World,
+    answer: Happened,
+    acts: &[Act],
+) -> Result<(), Fail> {
+    for act in acts {
+        if world.step(&event_of(alloc, *act))? != answer {
+            return Err("an event is answered otherwise".into());
+        }
+    }
+    Ok(())
+}
+
+/// The events can happen one after the other, and do.
+fn happen(alloc: Global, world: &mut World, acts: &[Act]) -> Result<(), Fail> {
+    all_answer(alloc, world, Happened::Done, acts)
+}
+
+/// The end writes these bytes.
+fn write(alloc: Global, world: &mut World, at: At, data: &[u8]) -> Result<(), Fail> {
+    let bytes = Bytes::new(Vec::from_slice(alloc, data)?);
+    match world.step(&Event::Write(at, bytes))? {
+        Happened::Done => Ok(()),
+        Happened::NotEnabled => Err("the end cannot write".into()),
+    }
+}
+
+/// An instance takes the segment with this index, and its job makes so many steps.
+fn handle(
+    alloc: Global,
+    world: &mut World,
+    instance: u16,
+    index: u64,
+    steps: u8,
+) -> Result<(), Fail> {
+    happen(alloc, world, &[Act::Take(instance, index)])?;
+    for _step in 0..steps {
+        happen(alloc, world, &[Act::Step(instance, SHARD)])?;
+    }
+    Ok(())
+}
+
+/// The flags, the number and the acknowledgment of the segment with this index, and how much data it has.
+fn brief(world: &World, index: u64) -> (u8, u32, u32, usize) {
+    match world.segment(index) {
+        Some(segment) => (
+            segment.head.flags,
+            segment.head.seq.0,
+            segment.head.ack.0,
+            segment.body.as_slice().len(),
+        ),
+        None => (0, 0, 0, 0),
+    }
+}
+
+/// Whether the end has received just this.
+fn has_received(world: &World, at: &At, wanted: &[u8]) -> bool {
+    match world.end(at) {
+        Some(end) => end.received() == wanted,
+        None => wanted.is_empty(),
+    }
+}
+
+/// The client asks, and a server is asked to accept: segments 0 to 3.
+fn asked(alloc: Global, world: &mut World) -> Result<(), Fail> {
+    happen(alloc, world, &[Act::Open(0), Act::Send(HERE, 1460)])?;
+    handle(alloc, world, 1, 0, 3)?;
+    happen(alloc, world, &[Act::Deliver(HERE, 1)])?;
+    write(alloc, world, HERE, HEAD)?;
+    happen(alloc, world, &[Act::Send(HERE, 1460)])?;
+    handle(alloc, world, 1, 2, 10)
+}
+
+/// The server accepts, and is sent the client's request: segments 4 to 6.
+fn accepted(alloc: Global, world: &mut World) -> Result<(), Fail> {
+    asked(alloc, world)?;
+    let accepts = [Act::Deliver(THERE, 3), Act::Send(THERE, 1460)];
+    happen(alloc, world, &accepts)?;
+    handle(alloc, world, 1, 4, 9)
+}
+
+/// The server is sent the request, and answers with 200 bytes, which an instance passes on: segments 7 and 8.
+fn answered(alloc: Global, world: &mut World) -> Result<(), Fail> {
+    write(alloc, world, THERE, &ANSWER)?;
+    happen(alloc, world, &[Act::Send(THERE, 1460)])?;
+    handle(alloc, world, 1, 7, 9)?;
+    happen(alloc, world, &[Act::Deliver(HERE, 8)])
+}
+
+#[test]
+fn a_request_and_its_answer_arrive(rt: HostRuntime) -> Result<(), Fail> {
+    let mut world = world(rt.alloc())?;
+    accepted(rt.alloc(), &mut world)?;
+    // The last is taken twice, and changes no end the second time.
+    let taken = [
+        Act::Deliver(THERE, 5),
+        Act::Deliver(THERE, 6),
+        Act::Deliver(THERE, 6),
+    ];
+    happen(rt.alloc(), &mut world, &taken)?;
+    assert!(rt; world.sent() == 7);
+    assert!(rt; brief(&world, 3) == (SYN, 1000, 0, 0));
+    assert!(rt; brief(&world, 4) == (SYN + ACK, 70000, 1001, 0));
+    assert!(rt; brief(&world, 5) == (ACK, 1001, 70001, 0));
+    assert!(rt; brief(&world, 6) == (PSH + ACK, 1001, 70001, 69));
+    assert!(rt; has_received(&world, &THERE, HEAD) && has_received(&world, &HERE, b""));
+    answered(rt.alloc(), &mut world)?;
+    assert!(rt; world.sent() == 9 && has_received(&world, &HERE, &ANSWER));
+    Ok(())
+}
+
+/// The other instance takes a request that came long ago, loses the server's answer in a crash, and takes it again, while
+/// two replicas fail: segments 7 to 9.
+fn taken_over(alloc: Global, world: &mut World) -> Result<(), Fail> {
+    handle(alloc, world, 0, 2, 20)?;
+    write(alloc, world, THERE, b"yes")?;
+    let lost = [
+        Act::Deliver(THERE, 7),
+        Act::Close(THERE),
+        Act::Send(THERE, 2),
+        Act::Take(0, 8),
+        Act::Crash(0),
+        Act::Fail(0),
+        Act::Fail(2),
+    ];
+    happen(alloc, world, &lost)?;
+    handle(alloc, world, 0, 8, 20)?;
+    happen(alloc, world, &[Act::Deliver(HERE, 9)])
+}
+
+#[test]
+fn segments_are_taken_twice_and_late(rt: HostRuntime) -> Result<(), Fail> {
+    let mut world = world(rt.alloc())?;
+    accepted(rt.alloc(), &mut world)?;
+    // The data before the acknowledgment that was sent first, the data again, and the SYN once more.
+    let late = [
+        Act::Deliver(THERE, 6),
+        Act::Deliver(THERE, 5),
+        Act::Deliver(THERE, 6),
+        Act::Deliver(THERE, 3),
+    ];
+    happen(rt.alloc(), &mut world, &late)?;
+    assert!(rt; has_received(&world, &THERE, HEAD));
+    taken_over(rt.alloc(), &mut world)?;
+    assert!(rt; brief(&world, 7) == (ACK, 1001, 70001, 69));
+    assert!(rt; has_received(&world, &THERE, HEAD) && has_received(&world, &HERE, b"ye"));
+    assert!(rt; world.sent() == 10);
+    Ok(())
+}
+
+#[test]
+fn a_refused_client_is_reset(rt: HostRuntime) -> Result<(), Fail> {
+    let mut world = world(rt.alloc())?;
+    asked(rt.alloc(), &mut world)?;
+    happen(rt.alloc(), &mut world, &[Act::Refuse(3)])?;
+    assert!(rt; brief(&world, 4) == (RST + ACK, 0, 1001, 0));
+    handle(rt.alloc(), &mut world, 1, 4, 20)?;
+    happen(rt.alloc(), &mut world, &[Act::Deliver(HERE, 5)])?;
+    match world.end(&HERE) {
+        Some(end) => assert!(rt; end.dead()),
+        None => return Err("there is no client".into()),
+    }
+    Ok(())
+}
+
+// Each of the cases in which an event is not enabled, but for a position out of reach, which takes too long a stream.
+#[test]
+fn what_may_not_be_is_not_enabled(rt: HostRuntime) -> Result<(), Fail> {
+    let mut world = world(rt.alloc())?;
+    accepted(rt.alloc(), &mut world)?;
+    let made = [
+        Act::Stray(9, 9, 81, SYN),
+        Act::Stray(9, 9, 80, SYN + FIN),
+        Act::Close(HERE),
+        Act::Abort(THERE),
+    ];
+    happen(rt.alloc(), &mut world, &made)?;
+    let barred = [
+        // A client, an end, an instance, a replica, a shard or a segment is not there.
+        Act::Open(1),
+        Act::Close(At::Client(1)),
+        Act::Send(NOWHERE, 9),
+        Act::Abort(NOWHERE),
+        Act::Take(2, 0),
+        Act::Step(2, 0),
+        Act::Step(0, 4),
+        Act::Crash(2),
+        Act::Fail(3),
+        Act::Take(0, 10),
+        Act::Deliver(HERE, 10),
+        Act::Refuse(10),
+        // The segment goes to somebody else.
+        Act::Deliver(HERE, 6),
+        Act::Deliver(THERE, 1),
+        Act::Deliver(HERE, 0),
+        Act::Take(0, 1),
+        // It is not aimed at the balancer, or has flags that no connection has.
+        Act::Take(0, 7),
+        Act::Take(0, 8),
+        // The client has opened.
+        Act::Open(0),
+        // The stranger is the client, or a server.
+        Act::Stray(CLIENT.address, CLIENT.port, 80, ACK),
+        Act::Stray(SERVER.address, 8080, 80, ACK),
+        // What is refused is no SYN, or its end is there.
+        Act::Refuse(5),
+        Act::Refuse(3),
+        // The end is closed that writes, or dead that writes, sends or aborts.
+        Act::Write(HERE),
+        Act::Write(THERE),
+        Act::Send(THERE, 9),
+        Act::Abort(THERE),
+    ];
+    all_answer(rt.alloc(), &mut world, Happened::NotEnabled, &barred)?;
+    assert!(rt; world.sent() == 10);
+    Ok(())
+}
+
+#[test]
+fn a_position_is_within_reach_below_two_to_the_31(rt: HostRuntime) {
+    assert!(rt; is_within(0, Some(0x7fff_ffff)) && !is_within(0, Some(0x8000_0000)));
+    assert!(rt; is_within(0x8000_0000, Some(1)) && !is_within(0x8000_0000, Some(0)));
+    assert!(rt; is_within(0, None));
+}
