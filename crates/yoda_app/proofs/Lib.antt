@@ -1,6 +1,7 @@
+pub mod Growing
 pub mod Longer
 pub mod Named
+pub mod Outcomes
 pub mod Outputs
 pub mod Rising
-pub mod Runs
 pub mod Stops

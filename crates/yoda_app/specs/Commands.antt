@@ -98,10 +98,11 @@ judged_status None = 0
 judged_status (Some f) = status_of f
 
 -- what a command with right words answers and leaves. Status 9, want of memory, may come in place of each status but 4.
-pub record IsRun (c : Command) (s : Change) (status : ℕ) : Type 0 where
+pub record IsOutcome (c : Command) (s : Change) (status : ℕ) : Type 0 where
   pub statuses :
       (status ≡ 0) ⊎ (status ≡ 3) ⊎ (status ≡ 4) ⊎ (status ≡ 5) ⊎ (status ≡ 6) ⊎ (status ≡ 7) ⊎ (status ≡ 8) ⊎ (status ≡ 9)
   pub done : status ≡ 0 → IsDone c s
+  pub silent : status ≡ 0 → s.new error_name ≡ s.old error_name
   pub read_fault : status ≡ 3 → (n : List ℕ) × IsInputFault c s n × SaysLine s (read_text n)
   pub write_fault : status ≡ 4 → (n : List ℕ) × IsWriteFault c s n × SaysLine s (write_text n)
   pub refused : (status ≡ 5) ⊎ (status ≡ 6) ⊎ (status ≡ 7) ⊎ (status ≡ 8) → (f : LoadFault) × (status ≡ status_of f) × IsRefused c s f × SaysLine s (refusal_text f)

@@ -2,8 +2,8 @@
 use Rattle.std.specs.Prelude.{◌≡◌, ℕ, List, Contains, Result, Ok, Err}
 use Rattle.std.specs.String.{string_bytes}
 use Rattle.common.specs.Causes.{Rose}
+use Rattle.plain_run.specs.Found.{IsFault}
 use Rattle.plain_run.specs.declared.fault.LoadFault.{LoadFault}
-use Rattle.plain_run.specs.declared.fault.LoadFault.TheVariants as fault
 use Rattle.shelf.specs.Changes.{Change}
 use Rattle.shelf.specs.Shelf.{SameContents}
 use Rattle.shelf.specs.declared.outside.Kind.TheVariants.{Writing}
@@ -14,12 +14,7 @@ use Rattle.yoda_app.specs.declared.ending.Stop.TheVariants.{Memory, Unloaded, Wr
 
 -- what holds where the inputs were not taken for this cause
 abbrev pub IsUnloaded : Command → Change → LoadFault → Type 0
-IsUnloaded c s (fault.Read name) = IsInputFault c s name
-IsUnloaded c s (fault.Limit passed) = IsRefused c s (fault.Limit passed)
-IsUnloaded c s (fault.Trace f) = IsRefused c s (fault.Trace f)
-IsUnloaded c s (fault.Rules f) = IsRefused c s (fault.Rules f)
-IsUnloaded c s (fault.Script f) = IsRefused c s (fault.Script f)
-IsUnloaded c s fault.Memory = IsUntouched s
+IsUnloaded c s fault = IsFault (IsInputFault c s) (IsUntouched s) (IsRefused c s) fault
 
 -- what holds where it stopped so
 abbrev pub IsStop : Command → Change → Stop → Type 0
@@ -55,13 +50,11 @@ Tells f (Write name) = ⊥
 
 -- what a writing to this name stops with: a fault at the name
 abbrev pub StopsWriting : Change → List ℕ → Stop → Type 0
-StopsWriting s name Memory = ⊥
-StopsWriting s name (Unloaded f text) = ⊥
 StopsWriting s name (Write n) = (n.now ≡ name) × Rose (s.before Writing name) (s.now Writing name)
+StopsWriting s name _ = ⊥
 
 -- what the writing of these texts to these outputs stops with: a fault at one of them
 abbrev pub StopsAmong : Change → List (List ℕ) → List (List ℕ) → Stop → Type 0
-StopsAmong s outputs texts Memory = ⊥
-StopsAmong s outputs texts (Unloaded f text) = ⊥
 StopsAmong s outputs texts (Write n) =
     Contains outputs n.now × Rose (s.before Writing n.now) (s.now Writing n.now) × StoppedAt n.now outputs texts s.old s.new
+StopsAmong s outputs texts _ = ⊥

@@ -6,5 +6,6 @@ pub mod Outs
 pub mod Plain
 pub mod Refusals
 pub mod Reports
+pub mod Texts
 pub mod Words
 pub mod Written

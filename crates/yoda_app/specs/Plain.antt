@@ -2,12 +2,15 @@
 -- record is written.
 use Rattle.std.specs.Prelude.{◌≡◌, ℕ, List, [], ◌∷◌, IfOk}
 use Rattle.std.specs.Result.{result_err}
+use Rattle.bench.specs.Blocks.{history}
 use Rattle.bench.specs.declared.input.inputs.Inputs.{Inputs}
 use Rattle.bench.specs.declared.input.line.Line.{Line}
 use Rattle.pcap_file.specs.Frames.{capture_of}
-use Rattle.plain_run.specs.Fold.{IsRun}
+use Rattle.plain_run.specs.Fold.{IsRun, run_calls}
 use Rattle.plain_run.specs.Judgement.{judged}
+use Rattle.plain_run.specs.Laws.{RunLaws}
 use Rattle.tcp_segment.specs.declared.segment.Segment.{Segment}
+use Rattle.world_model.specs.Headline.{Headline}
 use Rattle.yoda_app.specs.Commands.{Command}
 use Rattle.yoda_app.specs.Outs.{outs_text}
 use Rattle.yoda_app.specs.Reports.{report_text}
@@ -20,6 +23,10 @@ pub record IsPlain (inputs : Inputs) (texts : List (List ℕ)) : Type 0 where
   pub outs : List (ℕ × Segment)
   pub run : IsRun inputs lines outs
   pub are : texts ≡ outs_text (capture_of inputs.trace).frames outs ∷ report_text lines outs ∷ []
+  -- and with it what holds of every run: the segments of an open connection are passed on
+  pub laws : RunLaws inputs lines
+  -- .. and of its calls: in each world whose benches had these, streams agree, and what is acknowledged is backed
+  pub headline : Headline inputs.setup (λ shard. history shard (run_calls inputs lines))
 
 -- the five names
 pub record Paths : Type 0 where

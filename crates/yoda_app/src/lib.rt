@@ -9,7 +9,7 @@
 ghost use Rattle.std.specs.Prelude.{◌≡◌, ◌||◌, true};
 ghost use Rattle.shelf.specs.Changes.{change};
 ghost use Rattle.shelf.specs.Shelf.{NoneFell, StaysSure};
-ghost use Rattle.yoda_app.specs.Commands.{IsRun, IsUsage};
+ghost use Rattle.yoda_app.specs.Commands.{IsOutcome, IsUsage};
 ghost use Rattle.yoda_app.specs.DumpCommand.{dump_command};
 ghost use Rattle.yoda_app.specs.Plain.{plain_command};
 ghost use Rattle.yoda_app.specs.Words.{texts, are_plain, are_dump};
@@ -23,7 +23,7 @@ mod output;
 mod outs_text;
 mod plain;
 mod report;
-mod times;
+mod texts;
 mod words;
 mod writing;
 
@@ -39,15 +39,15 @@ use std::alloc::Global;
 /// exit status. It always returns, and it answers 2 for another command's words.
 pub fn yoda_plain<H: Shelf>(alloc: Global, words: &[String], shelf: &mut H) -> u8
     ensures usage { IsUsage (are_plain (texts words.now)) (change H.content H.faults H.sure shelf.old shelf.new) result }
-    ensures run { are_plain (texts words.now) ≡ true
-        → IsRun (plain_command (texts words.now)) (change H.content H.faults H.sure shelf.old shelf.new) result }
+    ensures outcome { are_plain (texts words.now) ≡ true
+        → IsOutcome (plain_command (texts words.now)) (change H.content H.faults H.sure shelf.old shelf.new) result }
     ensures counts { NoneFell (H.faults shelf.old) (H.faults shelf.new) }
     ensures stays { StaysSure (H.sure shelf.old) (H.sure shelf.new) }
 {
     match plain_names(words) {
         Some(names) => {
-            let end = plain(alloc, shelf, &names);
-            finish(shelf, &end)
+            let done = plain(alloc, shelf, &names);
+            finish(shelf, &done)
         }
         None => refuse_words(shelf),
     }
@@ -57,15 +57,15 @@ pub fn yoda_plain<H: Shelf>(alloc: Global, words: &[String], shelf: &mut H) -> u
 /// returns, and it answers 2 for another command's words.
 pub fn yoda_dump<H: Shelf>(alloc: Global, words: &[String], shelf: &mut H) -> u8
     ensures usage { IsUsage (are_dump (texts words.now)) (change H.content H.faults H.sure shelf.old shelf.new) result }
-    ensures run { are_dump (texts words.now) ≡ true
-        → IsRun (dump_command (texts words.now)) (change H.content H.faults H.sure shelf.old shelf.new) result }
+    ensures outcome { are_dump (texts words.now) ≡ true
+        → IsOutcome (dump_command (texts words.now)) (change H.content H.faults H.sure shelf.old shelf.new) result }
     ensures counts { NoneFell (H.faults shelf.old) (H.faults shelf.new) }
     ensures stays { StaysSure (H.sure shelf.old) (H.sure shelf.new) }
 {
     match dump_name(words) {
         Some(trace) => {
-            let end = dump(alloc, shelf, trace);
-            finish(shelf, &end)
+            let dumped = dump(alloc, shelf, trace);
+            finish(shelf, &dumped)
         }
         None => refuse_words(shelf),
     }
@@ -75,9 +75,9 @@ pub fn yoda_dump<H: Shelf>(alloc: Global, words: &[String], shelf: &mut H) -> u8
 pub fn yoda<H: Shelf>(alloc: Global, words: &[String], shelf: &mut H) -> u8
     ensures usage { IsUsage (are_plain (texts words.now) || are_dump (texts words.now)) (change H.content H.faults H.sure shelf.old shelf.new) result }
     ensures plain { are_plain (texts words.now) ≡ true
-        → IsRun (plain_command (texts words.now)) (change H.content H.faults H.sure shelf.old shelf.new) result }
+        → IsOutcome (plain_command (texts words.now)) (change H.content H.faults H.sure shelf.old shelf.new) result }
     ensures dump { are_dump (texts words.now) ≡ true
-        → IsRun (dump_command (texts words.now)) (change H.content H.faults H.sure shelf.old shelf.new) result }
+        → IsOutcome (dump_command (texts words.now)) (change H.content H.faults H.sure shelf.old shelf.new) result }
     ensures counts { NoneFell (H.faults shelf.old) (H.faults shelf.new) }
     ensures stays { StaysSure (H.sure shelf.old) (H.sure shelf.new) }
 {

@@ -1,32 +1,21 @@
 // The command `plain`.
-ghost use Rattle.std.specs.Prelude.{◌≡◌, ◌≢◌, ◌*◌, ℕ, List, [], ◌∷◌, IfOk, IfErr, OnOk, None, Ok, length};
-ghost use Rattle.std.specs.List.{AllByRecursion};
+ghost use Rattle.std.specs.Prelude.{◌≡◌, ◌≢◌, ℕ, List, [], ◌∷◌, IfOk, IfErr, OnOk, None, Ok};
+ghost use Rattle.std.specs.String.{string_bytes};
 ghost use Rattle.bench.specs.Inputs.{IsInputs};
-ghost use Rattle.plain_run.specs.Fold.{IsRun};
 ghost use Rattle.plain_run.specs.Judgement.{judged};
-ghost use Rattle.plain_run.specs.Outs.{IsSent};
 ghost use Rattle.shelf.specs.Changes.{change, held, AreTold};
 ghost use Rattle.shelf.specs.Shelf.{SameContents, NoneFell, StaysSure};
 ghost use Rattle.yoda_app.specs.Commands.{AllWritten};
 ghost use Rattle.yoda_app.specs.Ends.{IsStop, IsEnd, StopsAmong};
-ghost use Rattle.yoda_app.specs.Plain.{plain_of, IsPlain};
+ghost use Rattle.yoda_app.specs.Plain.{plain_of};
 
 use crate::ending::{Stop, stop_of};
 use crate::output::write_output;
-use crate::outs_text::outs_text;
-use crate::report::report_text;
+use crate::texts::{Texts, run_texts};
 use crate::words::{PlainNames, input_names};
 use plain_run::{Inputs, load};
 use shelf::Shelf;
-use std::alloc::{AllocError, Global};
-
-/// The two texts that `plain` writes.
-#[derive(Drop)]
-pub struct Texts {
-    /// The capture of what is sent.
-    pub out: Vec<u8>,
-    pub report: Vec<u8>,
-}
+use std::alloc::Global;
 
 // Reads the inputs and judges them.
 fn load_inputs<'a, H: Shelf>(
@@ -49,22 +38,6 @@ fn load_inputs<'a, H: Shelf>(
     }
 }
 
-// The texts of a run over the inputs. The one error is want of memory.
-fn run_texts(alloc: Global, inputs: &Inputs) -> Result<Texts, AllocError>
-    requires { IsInputs inputs.now }
-    ensures { IfOk result (λ t. IsPlain inputs.now (t.out.items ∷ t.report.items ∷ [])) }
-{
-    let done = plain_run::plain(alloc, inputs)?;
-    let out = outs_text(
-        alloc,
-        inputs.trace.as_slice(),
-        inputs.records,
-        done.outs.as_slice(),
-    )?;
-    let report = report_text(alloc, &done)?;
-    Ok(Texts { out, report })
-}
-
 // Reads the inputs, judges them, and makes the texts.
 fn prepare<'a, H: Shelf>(
     alloc: Global,
@@ -74,7 +47,7 @@ fn prepare<'a, H: Shelf>(
     ensures accepted { OnOk result (AreTold (H.content shelf.old) (plain_of names.now).inputs
         → (plain_of names.now).refusal (held (H.content shelf.old)) ≡ None) }
     ensures texts { IfOk result (λ t. AreTold (H.content shelf.old) (plain_of names.now).inputs
-        → (plain_of names.now).Gives (held (H.content shelf.old)) (t.out.items ∷ t.report.items ∷ [])) }
+        → (plain_of names.now).Gives (held (H.content shelf.old)) (t.out.items ∷ string_bytes t.report ∷ [])) }
     ensures stop { IfErr result (IsStop (plain_of names.now) (change H.content H.faults H.sure shelf.old shelf.new)) }
     ensures same { SameContents (H.content shelf.old) (H.content shelf.new) }
     ensures counts { NoneFell (H.faults shelf.old) (H.faults shelf.new) }
@@ -91,16 +64,16 @@ fn write_texts<'a, H: Shelf>(
     texts: &Texts,
 ) -> Result<(), Stop<'a>>
     requires { names.now.out.now ≢ names.now.report.now }
-    ensures all { OnOk result (AllWritten (plain_of names.now).outputs (texts.now.out.items ∷ texts.now.report.items ∷ [])
+    ensures all { OnOk result (AllWritten (plain_of names.now).outputs (texts.now.out.items ∷ string_bytes texts.now.report ∷ [])
         (H.content shelf.old) (H.content shelf.new)) }
     ensures stop { IfErr result (StopsAmong (change H.content H.faults H.sure shelf.old shelf.new) (plain_of names.now).outputs
-        (texts.now.out.items ∷ texts.now.report.items ∷ [])) }
+        (texts.now.out.items ∷ string_bytes texts.now.report ∷ [])) }
     ensures others { (n : List ℕ) → n ≢ names.now.out.now → n ≢ names.now.report.now → H.content shelf.new n ≡ H.content shelf.old n }
     ensures counts { NoneFell (H.faults shelf.old) (H.faults shelf.new) }
     ensures stays { StaysSure (H.sure shelf.old) (H.sure shelf.new) }
 {
     write_output(shelf, names.out, &texts.out)?;
-    write_output(shelf, names.report, &texts.report)
+    write_output(shelf, names.report, texts.report.as_bytes())
 }
 
 /// Reads the inputs, and writes what is sent for the trace's records and what became of them.

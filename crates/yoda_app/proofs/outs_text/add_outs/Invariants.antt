@@ -1,13 +1,13 @@
 use Rattle.std.proofs.Common.{◌≡◌, ◌++◌, length}
 use Rattle.std.specs.List.{AllByRecursion}
-use Rattle.plain_run.specs.Outs.{IsSent}
-use Rattle.yoda_app.specs.Outs.{sent_records}
+use Rattle.plain_run.specs.Outs.{IsShort}
+use Rattle.yoda_app.specs.Outs.{frame_records}
 use Rattle.yoda_app.proofs.outs_text.add_outs.Given as goal
 
 abbrev pub invariant-loop-rest : goal.invariant-loop-rest
 invariant-loop-rest l = record {
-  sent : AllByRecursion (IsSent (length l.times)) l.rest;
-  records : l.out.items ++ sent_records l.times l.rest ≡ l.fn.out.items ++ sent_records l.times l.sent;
+  short : AllByRecursion IsShort l.rest;
+  records : l.out.items ++ frame_records l.frame l.rest ≡ l.fn.out.items ++ frame_records l.frame l.outs;
 }
 
 abbrev pub decreases-loop-rest : goal.decreases-loop-rest

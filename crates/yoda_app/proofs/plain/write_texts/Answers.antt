@@ -1,3 +1,4 @@
+use Rattle.std.specs.String.{string_bytes}
 use Rattle.yoda_app.proofs.Stops.{second_stops}
 use Rattle.yoda_app.proofs.plain.write_texts.Goals as goal
 
@@ -6,6 +7,6 @@ returns-clause-stop g c =
     let n = c.args.names.now in
     second_stops (g.H.Shelf.content c.args.shelf.now) (g.H.Shelf.content c.write_output.new.shelf) (g.H.Shelf.content c.write_output-2.new.shelf)
     (g.H.Shelf.faults c.args.shelf.now) (g.H.Shelf.faults c.write_output.new.shelf) (g.H.Shelf.faults c.write_output-2.new.shelf)
-    (g.H.Shelf.sure c.args.shelf.now) (g.H.Shelf.sure c.write_output.new.shelf) n.out.now n.report.now c.args.texts.now.out.items c.args.texts.now.report.items c.write_output-2.result
+    (g.H.Shelf.sure c.args.shelf.now) (g.H.Shelf.sure c.write_output.new.shelf) n.out.now n.report.now c.args.texts.now.out.items (string_bytes c.args.texts.now.report) c.write_output-2.result
     c.requires (rw c.deref.ensures.value at c.in_ok-write_output.ensures.all) c.write_output.ensures.others c.write_output-2.ensures.others c.write_output.ensures.counts
-    c.write_output-2.ensures.stop (rw c.deref-2.ensures.value at c.write_output-2.ensures.part)
+    c.write_output-2.ensures.stop (rw c.as_bytes.ensures.value at c.write_output-2.ensures.part)

@@ -1,4 +1,4 @@
--- A command's end and its line make its run.
+-- A command's end and its line make its outcome.
 use Rattle.std.proofs.Common.{◌≡◌, ◌≢◌, ◌⊎◌, ℕ, ◌≤◌, List, [], ◌∷◌, refl, sym, ◌∙◌, ap, subst, inl, inr, arith}
 use Rattle.std.specs.Prelude.{Option, None, Some, Contains, Result, Ok, Err, IfErr, OnOk, codes}
 use Rattle.plain_run.specs.declared.fault.LoadFault.{LoadFault}
@@ -6,7 +6,7 @@ use Rattle.plain_run.specs.declared.fault.LoadFault.TheVariants as fault
 use Rattle.shelf.specs.Changes.{Change, held}
 use Rattle.shelf.specs.Shelf.{Contents, Counts, SameContents, SameOthers, NoneFell}
 use Rattle.shelf.specs.declared.outside.Kind.TheVariants.{Reading, Writing}
-use Rattle.yoda_app.specs.Commands.{Command, error_name, IsUntouched, Says, SaysLine, line, write_text, IsDone, IsInputFault, IsWriteFault, IsRefused, judged_status, IsRun}
+use Rattle.yoda_app.specs.Commands.{Command, error_name, IsUntouched, Says, SaysLine, line, write_text, IsDone, IsInputFault, IsWriteFault, IsRefused, judged_status, IsOutcome}
 use Rattle.yoda_app.specs.Ends.{IsUnloaded, IsEnd, stop_text, end_status}
 use Rattle.yoda_app.specs.Refusals.{status_of, refusal_text, read_text, memory_text}
 use Rattle.yoda_app.specs.Written.{longer, AddsPart}
@@ -30,10 +30,11 @@ not_of_refusal status n (inr (inl six)) same a b c d = b (sym same ∙ six)
 not_of_refusal status n (inr (inr (inl seven))) same a b c d = c (sym same ∙ seven)
 not_of_refusal status n (inr (inr (inr eight))) same a b c d = d (sym same ∙ eight)
 
-run_done : (c : Command) (s : Change) → IsDone c s → IsElsewhere c s.old s.new → IsRun c s 0
-run_done c s done elsewhere = record {
+outcome_done : (c : Command) (s : Change) → IsDone c s → s.new error_name ≡ s.old error_name → IsElsewhere c s.old s.new → IsOutcome c s 0
+outcome_done c s done silent elsewhere = record {
   statuses = inl refl;
   done = λ _. done;
+  silent = λ _. silent;
   read_fault = λ e. absurd (omega (arith, e));
   write_fault = λ e. absurd (omega (arith, e));
   refused = λ e. absurd (not_of_refusal 0 0 e refl (λ x. omega (arith, x)) (λ x. omega (arith, x)) (λ x. omega (arith, x)) (λ x. omega (arith, x)));
@@ -43,10 +44,11 @@ run_done c s done elsewhere = record {
   elsewhere = elsewhere;
 }
 
-run_read : (c : Command) (s : Change) (n : List ℕ) → IsInputFault c s n → SaysLine s (read_text n) → IsElsewhere c s.old s.new → IsRun c s 3
-run_read c s n fault says elsewhere = record {
+outcome_read : (c : Command) (s : Change) (n : List ℕ) → IsInputFault c s n → SaysLine s (read_text n) → IsElsewhere c s.old s.new → IsOutcome c s 3
+outcome_read c s n fault says elsewhere = record {
   statuses = inr (inl refl);
   done = λ e. absurd (omega (arith, e));
+  silent = λ e. absurd (omega (arith, e));
   read_fault = λ _. (n, fault, says);
   write_fault = λ e. absurd (omega (arith, e));
   refused = λ e. absurd (not_of_refusal 3 3 e refl (λ x. omega (arith, x)) (λ x. omega (arith, x)) (λ x. omega (arith, x)) (λ x. omega (arith, x)));
@@ -56,10 +58,11 @@ run_read c s n fault says elsewhere = record {
   elsewhere = elsewhere;
 }
 
-run_write : (c : Command) (s : Change) (n : List ℕ) → IsWriteFault c s n → SaysLine s (write_text n) → IsElsewhere c s.old s.new → IsRun c s 4
-run_write c s n fault says elsewhere = record {
+outcome_write : (c : Command) (s : Change) (n : List ℕ) → IsWriteFault c s n → SaysLine s (write_text n) → IsElsewhere c s.old s.new → IsOutcome c s 4
+outcome_write c s n fault says elsewhere = record {
   statuses = inr (inr (inl refl));
   done = λ e. absurd (omega (arith, e));
+  silent = λ e. absurd (omega (arith, e));
   read_fault = λ e. absurd (omega (arith, e));
   write_fault = λ _. (n, fault, says);
   refused = λ e. absurd (not_of_refusal 4 4 e refl (λ x. omega (arith, x)) (λ x. omega (arith, x)) (λ x. omega (arith, x)) (λ x. omega (arith, x)));
@@ -69,10 +72,11 @@ run_write c s n fault says elsewhere = record {
   elsewhere = elsewhere;
 }
 
-run_memory : (c : Command) (s : Change) → IsUntouched s → SaysLine s memory_text → IsElsewhere c s.old s.new → IsRun c s 9
-run_memory c s untouched says elsewhere = record {
+outcome_memory : (c : Command) (s : Change) → IsUntouched s → SaysLine s memory_text → IsElsewhere c s.old s.new → IsOutcome c s 9
+outcome_memory c s untouched says elsewhere = record {
   statuses = inr (inr (inr (inr (inr (inr (inr refl))))));
   done = λ e. absurd (omega (arith, e));
+  silent = λ e. absurd (omega (arith, e));
   read_fault = λ e. absurd (omega (arith, e));
   write_fault = λ e. absurd (omega (arith, e));
   refused = λ e. absurd (not_of_refusal 9 9 e refl (λ x. omega (arith, x)) (λ x. omega (arith, x)) (λ x. omega (arith, x)) (λ x. omega (arith, x)));
@@ -88,11 +92,12 @@ all_statuses status (inr (inl six)) = inr (inr (inr (inr (inl six))))
 all_statuses status (inr (inr (inl seven))) = inr (inr (inr (inr (inr (inl seven)))))
 all_statuses status (inr (inr (inr eight))) = inr (inr (inr (inr (inr (inr (inl eight))))))
 
-run_refused : (c : Command) (s : Change) (f : LoadFault) → OfRefusal (status_of f) → IsRefused c s f → SaysLine s (refusal_text f) → IsElsewhere c s.old s.new → IsRun c s (status_of f)
-run_refused c s f is refused says elsewhere =
+outcome_refused : (c : Command) (s : Change) (f : LoadFault) → OfRefusal (status_of f) → IsRefused c s f → SaysLine s (refusal_text f) → IsElsewhere c s.old s.new → IsOutcome c s (status_of f)
+outcome_refused c s f is refused says elsewhere =
     record {
       statuses = all_statuses (status_of f) is;
       done = λ e. absurd (not_of_refusal (status_of f) 0 is e (λ x. omega (arith, x)) (λ x. omega (arith, x)) (λ x. omega (arith, x)) (λ x. omega (arith, x)));
+      silent = λ e. absurd (not_of_refusal (status_of f) 0 is e (λ x. omega (arith, x)) (λ x. omega (arith, x)) (λ x. omega (arith, x)) (λ x. omega (arith, x)));
       read_fault = λ e. absurd (not_of_refusal (status_of f) 3 is e (λ x. omega (arith, x)) (λ x. omega (arith, x)) (λ x. omega (arith, x)) (λ x. omega (arith, x)));
       write_fault = λ e. absurd (not_of_refusal (status_of f) 4 is e (λ x. omega (arith, x)) (λ x. omega (arith, x)) (λ x. omega (arith, x)) (λ x. omega (arith, x)));
       refused = λ _. (f, refl, refused, says);
@@ -135,9 +140,9 @@ refused_on c mid between s f others refused = record { cause = refused.cause; un
 
 -- inputs that were not taken, and the line that says why
 unloaded_of : (c : Command) (mid : Contents) (between : Counts) (s : Change) (f : LoadFault) → IsUnloaded c (record s { new = mid; now = between }) f → SameOthers error_name mid s.new
-    → NoneFell between s.now → SaysLine s (refusal_text f) → IsElsewhere c s.old s.new → IsRun c s (status_of f)
+    → NoneFell between s.now → SaysLine s (refusal_text f) → IsElsewhere c s.old s.new → IsOutcome c s (status_of f)
 unloaded_of c mid between s (fault.Read name) first others later says elsewhere =
-    run_read c s name (record {
+    outcome_read c s name (record {
       fault = record {
         named = first.fault.named;
         rose = rose_until _ _ _ first.fault.rose (later Reading name);
@@ -146,34 +151,34 @@ unloaded_of c mid between s (fault.Read name) first others later says elsewhere 
       untouched = untouched_on s.old mid s.new first.untouched others;
     }) says elsewhere
 unloaded_of c mid between s (fault.Limit passed) first others later says elsewhere =
-    run_refused c s (fault.Limit passed) (inr (inr (inr refl))) (refused_on c mid between s (fault.Limit passed) others first) says elsewhere
+    outcome_refused c s (fault.Limit passed) (inr (inr (inr refl))) (refused_on c mid between s (fault.Limit passed) others first) says elsewhere
 unloaded_of c mid between s (fault.Trace f) first others later says elsewhere =
-    run_refused c s (fault.Trace f) (inl refl) (refused_on c mid between s (fault.Trace f) others first) says elsewhere
+    outcome_refused c s (fault.Trace f) (inl refl) (refused_on c mid between s (fault.Trace f) others first) says elsewhere
 unloaded_of c mid between s (fault.Rules f) first others later says elsewhere =
-    run_refused c s (fault.Rules f) (inr (inl refl)) (refused_on c mid between s (fault.Rules f) others first) says elsewhere
+    outcome_refused c s (fault.Rules f) (inr (inl refl)) (refused_on c mid between s (fault.Rules f) others first) says elsewhere
 unloaded_of c mid between s (fault.Script f) first others later says elsewhere =
-    run_refused c s (fault.Script f) (inr (inr (inl refl))) (refused_on c mid between s (fault.Script f) others first) says elsewhere
+    outcome_refused c s (fault.Script f) (inr (inr (inl refl))) (refused_on c mid between s (fault.Script f) others first) says elsewhere
 unloaded_of c mid between s fault.Memory first others later says elsewhere =
-    run_memory c s (untouched_on s.old mid s.new first others) says elsewhere
+    outcome_memory c s (untouched_on s.old mid s.new first others) says elsewhere
 
-pub run_of : (c : Command) (mid : Contents) (between : Counts) (s : Change) (end : Result (Unit {0}) Stop) → Finished c mid between s end → IsRun c s (end_status end)
-run_of c mid between s (Ok done) f =
-    run_done c s (record {
+pub outcome_of : (c : Command) (mid : Contents) (between : Counts) (s : Change) (end : Result (Unit {0}) Stop) → Finished c mid between s end → IsOutcome c s (end_status end)
+outcome_of c mid between s (Ok done) f =
+    outcome_done c s (record {
       accepted = f.first.accepted;
       outputs = λ told. (let o = f.first.outputs told in
           (o.0, o.1, written_on c.outputs o.0 s.old mid s.new (kept c.outputs mid s.new f.apart f.others) o.2));
-    }) (elsewhere_on c s.old mid s.new f.left f.others)
-run_of c mid between s (Err Memory) f =
-    run_memory c s (untouched_on s.old mid s.new (λ n _. f.first n) f.others)
+    }) (f.silent error_name ∙ f.here) (elsewhere_on c s.old mid s.new f.left f.others)
+outcome_of c mid between s (Err Memory) f =
+    outcome_memory c s (untouched_on s.old mid s.new (λ n _. f.first n) f.others)
     (says_since _ _ _ _ _ _ _ f.here (f.rising Writing error_name) f.says)
     (elsewhere_on c s.old mid s.new f.left f.others)
-run_of c mid between s (Err (Unloaded g text)) f =
+outcome_of c mid between s (Err (Unloaded g text)) f =
     let S : List ℕ → Type 0 = λ t. SaysLine s t in
     unloaded_of c mid between s g f.first.0 f.others f.later
     (subst S f.first.1 (says_since _ _ _ _ _ _ _ f.here (f.rising Writing error_name) f.says))
     (elsewhere_on c s.old mid s.new f.left f.others)
-run_of c mid between s (Err (Write name)) f =
-    run_write c s name.now (record {
+outcome_of c mid between s (Err (Write name)) f =
+    outcome_write c s name.now (record {
       named = f.first.named;
       rose = rose_until _ _ _ f.first.rose (f.later Writing name.now);
       accepted = f.first.accepted;
