@@ -4,7 +4,7 @@
 set -eu
 . "$(dirname "$0")/begin.bash"
 begin tcpdump
-python3 "$TOP/bench/capture.py" large.pcap
-python3 "$TOP/bench/beside.py" large.pcap \
+python3 "$TOP/benchmarks/capture.py" large.pcap
+python3 "$TOP/benchmarks/beside.py" large.pcap \
   "yoda dump" "$PROGRAM dump large.pcap" \
   "tcpdump -nr" "tcpdump -nr large.pcap"

@@ -4,7 +4,7 @@ begin() {
   local tool
   TOP=$(cd "$(dirname "${BASH_SOURCE[0]}")/.." && pwd)
   export PYTHONPATH=$TOP/tests PYTHONDONTWRITEBYTECODE=1
-  for tool in python3 "$@"; do command -v "$tool" >/dev/null || { echo "bench: there is no $tool"; exit 1; }; done
+  for tool in python3 "$@"; do command -v "$tool" >/dev/null || { echo "benchmarks: there is no $tool"; exit 1; }; done
   . "$TOP/tests/program.bash"
   program "$TOP"
   out=$(mktemp -d)

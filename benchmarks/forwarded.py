@@ -1,5 +1,5 @@
-"""Makes a capture of forwarded traffic, raw IPv4 and all checksums right: a thousand flows are opened, and then data goes
-both ways in turn.
+"""Makes a capture of forwarded traffic, Ethernet frames with all checksums right: a thousand flows are opened, and then
+data goes both ways in turn.
 
 Usage: forwarded.py RECORDS RULES CAPTURE. The rules file is written beside it; it has one server."""
 import sys
@@ -8,7 +8,7 @@ from wire import ACK, PSH, SECRET, Flow, write_capture
 
 FLOWS = 1000
 SHARDS = 8
-DATA = 196
+DATA = 184
 HEAD = b"GET / HTTP/1.1\r\nHost: shop.example\r\n\r\n"
 
 
@@ -43,4 +43,4 @@ with open(rules, "w") as out:
         '[[server]]\nname = "a"\naddress = "10.0.0.1"\nport = 8080\n'
         '[[rule]]\nto = ["a"]\nweights = [1]\n'
     )
-write_capture(capture, packets(count))
+write_capture(capture, packets(count), ethernet=True)
