@@ -30,11 +30,13 @@ def packet(source, target, seq, ack, flags, data=b"", options=b"", window=64240)
     return ip[:10] + struct.pack(">H", total(ip)) + ip[12:] + segment
 
 
-def write_capture(name, packets):
-    """Writes raw IPv4 packets as a capture, a millisecond apart."""
+def write_capture(name, packets, ethernet=False):
+    """Writes IPv4 packets as a capture, a millisecond apart: raw, or each behind an Ethernet head."""
+    head = bytes(12) + b"\x08\x00" if ethernet else b""
     with open(name, "wb") as out:
-        out.write(struct.pack("<IHHiIII", 0xA1B2C3D4, 2, 4, 0, 0, 65535, 101))
-        for n, frame in enumerate(packets):
+        out.write(struct.pack("<IHHiIII", 0xA1B2C3D4, 2, 4, 0, 0, 65535, 1 if ethernet else 101))
+        for n, packet in enumerate(packets):
+            frame = head + packet
             out.write(struct.pack("<IIII", n // 1000, n % 1000 * 1000, len(frame), len(frame)) + frame)
 
 
