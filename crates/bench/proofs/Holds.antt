@@ -1,10 +1,14 @@
 -- What a desk holds of a flow: the data of segments that its instance took since its last crash.
-use Rattle.std.proofs.Common.{◌≡◌, ℕ, zero, suc, ◌⊎◌, inl, inr, Bool, true, false, ◌==◌, Option, Some, None, List, [], ◌∷◌, ◌++◌, replicate, refl, sym, ◌∙◌, ap, subst, append_assoc}
-use Rattle.std.specs.Prelude.{if◌then◌else◌, slice_set, unwrap_or}
-use Rattle.std.specs.Map.{lookup}
+use Rattle.std.proofs.Common.{◌≡◌, ℕ, zero, suc, ◌⊎◌, inl, inr, Bool, true, false, ◌==◌, Option, Some, None, List, [], ◌∷◌, ◌++◌, replicate, refl, sym, ◌∙◌, ap, subst, append_assoc, get_or}
+use Rattle.std.specs.Prelude.{cond, if◌then◌else◌, slice_get, slice_set, unwrap_or, position}
+use Rattle.std.specs.List.{IsDistinct, AllByRecursion}
+use Rattle.std.specs.Map.{lookup, keys_of}
+use Rattle.std.specs.Cmp.{IsEquivalence}
 use Rattle.std.proofs.lemmas.Bool.{eqb-true, eq-eqb, false≢true}
 use Rattle.std.proofs.lemmas.List.{append-nil}
-use Rattle.std.proofs.lemmas.Option.{none-some}
+use Rattle.std.proofs.lemmas.Option.{none-some, slice_get-get_or}
+use Rattle.indexmap.proofs.MapLemmas.{Found-position, swap_remove_entry-found, swap_remove_entry-missing}
+use Rattle.indexmap.proofs.RemoveLemmas.{swap_out, none_out}
 use Rattle.flow_id.specs.Keys.{same_flow}
 use Rattle.flow_id.proofs.SameKeys.{exact_flow, same_flow_itself}
 use Rattle.flow_id.specs.declared.key.Flow.{Flow}
@@ -75,14 +79,6 @@ module _ (f : Flow) where
             skips e.0 bytes held other ∙ sym (skips e.0 e.1 held other)
         by false other rest = behind e (put_held held g bytes) held rest
 
-    drop_other : (held : Held) → held_of (drop_held held g) f ≡ held_of held f
-    drop_other [] = refl
-    drop_other (e ∷ held) = by (same_flow g e.0) refl (drop_other held)
-      where
-        by : (b : Bool) → same_flow g e.0 ≡ b → held_of (drop_held held g) f ≡ held_of held f → held_of (if b then held else e ∷ drop_held held g) f ≡ held_of (e ∷ held) f
-        by true same rest = sym (skips e.0 e.1 held (subst (λ (h : Flow). same_flow f h ≡ false) (exact_flow g e.0 same) apart))
-        by false other rest = behind e (drop_held held g) held rest
-
 -- ---- of each flow there is one entry
 abbrev pub Once : Held → Type 0
 Once [] = Unit {0}
@@ -107,13 +103,6 @@ module _ (f : Flow) where
         by_test (λ (h : Held). lookup (same_flow f) h ≡ None) (same_flow g e.0) ((e.0, bytes) ∷ held) (e ∷ put_held held g bytes)
         (λ same. lookup_behind (e.0, bytes) held parts.0 parts.1) (λ other. lookup_behind e (put_held held g bytes) parts.0 (put_lacks held bytes parts.1))
 
-  drop_lacks : (g : Flow) (held : Held) → lookup (same_flow f) held ≡ None → lookup (same_flow f) (drop_held held g) ≡ None
-  drop_lacks g [] none = refl
-  drop_lacks g (e ∷ held) none =
-      let parts = lookup_skips e held none in
-      by_test (λ (h : Held). lookup (same_flow f) h ≡ None) (same_flow g e.0) held (e ∷ drop_held held g)
-      (λ same. parts.1) (λ other. lookup_behind e (drop_held held g) parts.0 (drop_lacks g held parts.1))
-
 -- flows that differ one way differ the other way
 apart_back : (f g : Flow) → same_flow f g ≡ false → same_flow g f ≡ false
 apart_back f g apart = by (same_flow g f) refl
@@ -128,19 +117,64 @@ put_once (e ∷ held) g bytes once =
     by_test Once (same_flow g e.0) ((e.0, bytes) ∷ held) (e ∷ put_held held g bytes)
     (λ same. once) (λ other. (put_lacks e.0 g (apart_back g e.0 other) held bytes once.0, put_once held g bytes once.1))
 
+-- .. said of the flows alone
+none_alike : (f : Flow) (held : Held) → lookup (same_flow f) held ≡ None → AllByRecursion (λ g. same_flow f g ≡ false) (keys_of held)
+none_alike f [] none = tt
+none_alike f (e ∷ held) none = let parts = lookup_skips f e held none in (parts.0, none_alike f held parts.1)
+
+alike_none : (f : Flow) (held : Held) → AllByRecursion (λ g. same_flow f g ≡ false) (keys_of held) → lookup (same_flow f) held ≡ None
+alike_none f [] apart = refl
+alike_none f (e ∷ held) apart = lookup_behind f e held apart.0 (alike_none f held apart.1)
+
+distinct : (held : Held) → Once held → IsDistinct same_flow (keys_of held)
+unfolding IsDistinct
+distinct [] once = tt
+distinct (e ∷ held) once = (none_alike e.0 held once.0, distinct held once.1)
+
+once_distinct : (held : Held) → IsDistinct same_flow (keys_of held) → Once held
+unfolding IsDistinct
+once_distinct [] apart = tt
+once_distinct (e ∷ held) apart = (alike_none e.0 held apart.0, once_distinct held apart.1)
+
+same_flows : IsEquivalence same_flow
+same_flows = record {
+  refl = same_flow_itself;
+  symm = λ f g. both_ways f g (same_flow f g) refl;
+  congr = λ f g h same. ap (λ x. same_flow x h) (exact_flow f g same);
+}
+  where
+    both_ways : (f g : Flow) (b : Bool) → same_flow f g ≡ b → same_flow f g ≡ same_flow g f
+    both_ways f g true same = same ∙ sym (subst (λ (h : Flow). same_flow h f ≡ true) (exact_flow f g same) (same_flow_itself f))
+    both_ways f g false apart = apart ∙ sym (apart_back f g apart)
+
+-- the flow's entry is gone, and the others are there
+abbrev Drops : Held → Flow → Type 0
+Drops held g = ((f : Flow) → lookup (same_flow f) (drop_held held g) ≡ cond (same_flow g f) None (lookup (same_flow f) held)) × Once (drop_held held g)
+
+drop_updates : (held : Held) (g : Flow) → Once held → Drops held g
+drop_updates held g once = by (position (same_flow g) (keys_of held)) refl
+  where
+    by : (o : Option ℕ) → position (same_flow g) (keys_of held) ≡ o → Drops held g
+    by None is =
+        let same = swap_remove_entry-missing (same_flow g) held is in
+        ((none_out same_flow same_flows (same_flow g) (same_flows.congr g) held (drop_held held g) is same).0, subst Once (sym same) once)
+    by (Some i) is =
+        let last : Flow × List ℕ = get_or held i (g, []) in
+        let at : slice_get held i ≡ Some last = slice_get-get_or held i (g, []) (Found-position (same_flow g) held i is).within in
+        let out = swap_out same_flow same_flows (same_flow g) (same_flows.congr g) held i last is at (distinct held once) (drop_held held g) (swap_remove_entry-found (same_flow g) held i last is) in
+        (out.updated.0, once_distinct (drop_held held g) out.unique)
+
 drop_once : (held : Held) (g : Flow) → Once held → Once (drop_held held g)
-drop_once [] g once = tt
-drop_once (e ∷ held) g once =
-    by_test Once (same_flow g e.0) held (e ∷ drop_held held g) (λ same. once.1) (λ other. (drop_lacks e.0 g held once.0, drop_once held g once.1))
+drop_once held g once = (drop_updates held g once).1
 
 -- nothing is left of what is dropped
 drop_own : (held : Held) (f : Flow) → Once held → held_of (drop_held held f) f ≡ []
-drop_own [] f once = refl
-drop_own (e ∷ held) f once = by (same_flow f e.0) refl (drop_own held f once.1)
-  where
-    by : (b : Bool) → same_flow f e.0 ≡ b → held_of (drop_held held f) f ≡ [] → held_of (if b then held else e ∷ drop_held held f) f ≡ []
-    by true same rest = ap (λ (o : Option (List ℕ)). unwrap_or o []) (subst (λ (h : Flow). lookup (same_flow h) held ≡ None) (sym (exact_flow f e.0 same)) once.0)
-    by false other rest = skips f e.0 e.1 (drop_held held f) other ∙ rest
+drop_own held f once =
+    ap (λ (o : Option (List ℕ)). unwrap_or o []) ((drop_updates held f once).0 f ∙ ap (λ (b : Bool). cond b None (lookup (same_flow f) held)) (same_flow_itself f))
+
+drop_other : (held : Held) (f g : Flow) → Once held → same_flow f g ≡ false → held_of (drop_held held g) f ≡ held_of held f
+drop_other held f g once apart =
+    ap (λ (o : Option (List ℕ)). unwrap_or o []) ((drop_updates held g once).0 f ∙ ap (λ (b : Bool). cond b None (lookup (same_flow f) held)) (apart_back f g apart))
 
 -- ---- desks that are set
 -- a desk's held bytes after desk n was set
@@ -280,7 +314,7 @@ module _ (setup : SetupView) (shard : ℕ) (good : IsSetup setup) (calls : List 
       where
         by : (t : Bool) → same_flow flow g ≡ t → Becomes log b (Step i) i flow (held_of desk flow) (held_of (drop_held desk g) flow)
         by true same = no_bytes (Step i) i flow _ (ap (λ (h : Flow). held_of (drop_held desk h) flow) (sym (exact_flow flow g same)) ∙ drop_own desk flow (once_after setup shard calls i))
-        by false apart = same_bytes (Step i) i flow _ (drop_other flow g apart desk)
+        by false apart = same_bytes (Step i) i flow _ (drop_other desk flow g (once_after setup shard calls i) apart)
 
     left : (o : Option Flow) → Becomes log b (Step i) i flow (held_of desk flow) (held_of (held_after o change.Same desk) flow)
     left None = stays
