@@ -1,7 +1,7 @@
 ghost use Rattle.std.specs.Prelude.{◌≡◌, ◌≤◌, [], ◌∷◌, ◌++◌, length, IfOk, OnErr};
 ghost use Rattle.job_core.specs.declared.moves.Answer.TheVariants.{Decided, Absent};
-ghost use Rattle.job_core.specs.Jobs.{IsAnswered, IsTaken, KnowsServers, answered as answered_by, MayAnswer, begun, first_ask, flow_by, move_after};
-ghost use Rattle.job_core.specs.Phases.{AtPhase, IsKnownOpen, Leads, MarkFits, marked_job, passed_from};
+ghost use Rattle.job_core.specs.Jobs.{IsAnswered, IsTaken, KnowsServers, answered as answered_by, MayAnswer, begun, first_ask, flow_by, mark_of, marked_job, move_after};
+ghost use Rattle.job_core.specs.Phases.{AtPhase, IsKnownOpen, Leads, passed_from};
 ghost use Rattle.job_core.specs.declared.verdict.Verdict.TheVariants.{Forwarded};
 ghost use Rattle.job_core.specs.Moves.{ends};
 
@@ -154,8 +154,7 @@ impl Job {
 
     /// All of the job but its segment.
     pub fn mark(&self) -> JobMark
-        ensures job { self.now ≡ marked_job result self.now.segment }
-        ensures fits { MarkFits result self.now.segment }
+        ensures { result ≡ mark_of self.now }
     {
         JobMark {
             instance: self.instance,
@@ -169,7 +168,7 @@ impl Job {
 
     /// Makes the job what it was at the mark, which was taken of it. The job has not ended since.
     pub fn back(&mut self, mark: JobMark)
-        requires { MarkFits mark self.old.segment }
+        requires { mark.flags ≡ self.old.segment.head.flags }
         ensures { self.new ≡ marked_job mark self.old.segment }
     {
         self.instance = mark.instance;
