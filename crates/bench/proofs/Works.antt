@@ -1,8 +1,6 @@
 -- A step of a work: what may answer its job, and that a step that was refused is taken back.
-use Rattle.std.proofs.Common.{◌≡◌, ℕ, zero, suc, ◌<◌, Bool, true, false, ◌&&◌, Option, Some, None, List, [], ◌∷◌, ◌++◌, length, get_or, refl, sym, ◌∙◌, ap, subst}
-use Rattle.std.specs.Prelude.{not, slice_get}
+use Rattle.std.proofs.Common.{◌≡◌, ℕ, suc, true, Option, Some, None, List, [], ◌∷◌, ◌++◌, length, refl, sym, ◌∙◌, ap, subst}
 use Rattle.std.proofs.lemmas.Option.{none-some, same_Some}
-use Rattle.flow_id.specs.declared.key.Key.{Key}
 use Rattle.flow_record.specs.Records.{asked_key, FitsItsKey}
 use Rattle.flow_record.specs.declared.record.Ask.{Ask}
 use Rattle.flow_record.specs.declared.record.Ask.TheVariants.{Get, Add}
@@ -10,19 +8,16 @@ use Rattle.job_core.specs.Jobs.{JobView, MayAnswer, is_get, move_after}
 use Rattle.job_core.specs.declared.moves.Move.{Move}
 use Rattle.job_core.specs.declared.moves.Next.TheVariants as next
 use Rattle.job_core.specs.declared.moves.Answer.{Answer}
-use Rattle.replica_cell.specs.Cells.{Replica, CellView, has_key}
-use Rattle.replica_cell.specs.Walks.{IsGet, EndsAbsent, cell_at, changed, walk_after, cells_after, standing, replicas, stores, stores_in}
+use Rattle.replica_cell.specs.Cells.{Replica, CellView}
+use Rattle.replica_cell.specs.Walks.{IsGet, EndsAbsent, walk_after, standing, replicas}
 use Rattle.replica_cell.specs.declared.walk.Stepped.{Stepped}
 use Rattle.replica_cell.specs.declared.walk.Stepped.TheVariants.{Going, Decided, Absent, Down}
 use Rattle.replica_cell.specs.declared.walk.Walk.{Walk}
 use Rattle.replica_cell.proofs.Origins.{after_from}
-use Rattle.replica_cell.proofs.Orders.{later_length}
-use Rattle.replica_cell.proofs.Steps.{decided_carried, same_ask, step_later}
-use Rattle.replica_cell.proofs.Views.{get-replicas}
+use Rattle.replica_cell.proofs.Steps.{decided_carried, same_ask}
 use Rattle.rule_table.specs.Setups.{SetupView, IsSetup}
 use Rattle.bench.specs.Bench.{answer_of}
 use Rattle.bench.specs.Desks.{CellsKnown, WalkKnown}
-use Rattle.bench.specs.declared.desk.Work.{Work}
 use Rattle.job_core.proofs.Asks.{asked_is}
 use Rattle.bench.proofs.Fits.{asked_fit}
 use Rattle.bench.specs.JobLaws.{IsRecordOf}
