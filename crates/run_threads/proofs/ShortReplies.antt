@@ -1,0 +1,99 @@
+-- Over every history whose takes fit packets, what a bench is answered sends what fits packets, with a verdict of the handling
+-- table.
+use Rattle.std.proofs.Common.{ℕ, zero, suc, ◌≤◌, Option, Some, None, List, [], ◌∷◌, ◌++◌, length, replicate, Bool, true, false, nat_eq, if◌then◌else◌, arith}
+use Rattle.std.specs.Prelude.{slice_set}
+use Rattle.std.specs.List.{AllByRecursion}
+use Rattle.seen_lock.specs.declared.object.Entry.{Entry}
+use Rattle.bench.specs.Bench.{JobState, Desk, Held, BenchState, empty_desk, desk_at, job_at, held_by, answer_of, says, stepped_by, stepped, step_at, served, job_by, new_job, reply_by}
+use Rattle.bench.specs.Histories.{opening}
+use Rattle.bench.specs.declared.call.Call.{Call}
+use Rattle.bench.specs.declared.call.Call.TheVariants.{Take, Step, Crash, Fail}
+use Rattle.job_core.specs.Jobs.{flow_by}
+use Rattle.job_core.specs.Table.{next_move}
+use Rattle.job_core.specs.declared.aim.Aim.{Aim}
+use Rattle.job_core.specs.declared.moves.Answer.{Answer as AnswerOf}
+use Rattle.job_core.specs.declared.moves.Next.{Next}
+use Rattle.job_core.specs.declared.moves.Next.TheVariants as next
+use Rattle.replica_cell.specs.Walks.{walk_after}
+use Rattle.replica_cell.specs.declared.walk.Walk.{Walk}
+use Rattle.rule_table.specs.Setups.{SetupView}
+use Rattle.tcp_segment.specs.declared.segment.Segment.{Segment}
+use Rattle.run_threads.specs.Answered.{Answer, answered}
+use Rattle.run_threads.specs.Outs.{IsTableReply}
+use Rattle.run_threads.proofs.ShortOuts.{IsShortNext, move_short}
+
+-- a job whose segment came in with a packet
+abbrev IsShortJob : Option JobState → Type 0
+IsShortJob None = Unit {0}
+IsShortJob (Some job) = length job.segment.body ≤ 65495
+
+-- .. so are all jobs at these desks
+abbrev AreShortJobs : List Desk → Type 0
+AreShortJobs desks = (i : ℕ) → IsShortJob (job_at desks i)
+
+abbrev pub IsShortCall : Call → Type 0
+IsShortCall (Take i item a segment) = length segment.body ≤ 65495
+IsShortCall (Step i) = Unit {0}
+IsShortCall (Crash i) = Unit {0}
+IsShortCall (Fail place) = Unit {0}
+
+set_jobs : (desks : List Desk) (i : ℕ) (desk : Desk) → AreShortJobs desks → IsShortJob desk.job → AreShortJobs (slice_set desks i desk)
+set_jobs [] i desk all one j = tt
+set_jobs (d ∷ desks) zero desk all one zero = one
+set_jobs (d ∷ desks) zero desk all one (suc j) = all (suc j)
+set_jobs (d ∷ desks) (suc i) desk all one zero = all zero
+set_jobs (d ∷ desks) (suc i) desk all one (suc j) = set_jobs desks i desk (λ k. all (suc k)) one j
+
+job_short : (item : ℕ) (a : Aim) (segment : Segment) (answers : List AnswerOf) (n : Next) → length segment.body ≤ 65495 → IsShortJob (job_by item a segment answers n)
+job_short item a segment answers (next.Ask ask) short = short
+job_short item a segment answers (next.End verdict outs) short = tt
+
+reply_short : (n : Next) → IsShortNext 65495 n → IsTableReply (reply_by n)
+reply_short (next.Ask ask) short = tt
+reply_short (next.End verdict outs) short = short
+
+wide : 65495 ≤ 65495
+wide = omega arith
+
+stepped_short : (setup : SetupView) (i : ℕ) (job : JobState) (held : Held) (walk : Walk) (o : Option AnswerOf) → length job.segment.body ≤ 65495
+    → IsShortJob (stepped_by setup i job held walk o).0.job × IsTableReply (stepped_by setup i job held walk o).1
+stepped_short setup i job held walk None short = (short, tt)
+stepped_short setup i job held walk (Some a) short =
+    let answers = job.answers ++ a ∷ [] in
+    let bytes = held_by (flow_by job.aim job.answers) held in
+    let n = (next_move setup i job.aim job.segment answers bytes).next in
+    (job_short job.item job.aim job.segment answers n short, reply_short n (move_short 65495 wide setup i job.segment short bytes job.aim answers))
+
+step_short : (b : BenchState) (i : ℕ) (o : Option JobState) → AreShortJobs b.desks → IsShortJob o → AreShortJobs (step_at b i o).0.desks × IsTableReply (step_at b i o).1
+step_short b i None all one = (all, tt)
+step_short b i (Some job) all one =
+    let held = (desk_at b.desks i).held in
+    let both = stepped_short b.setup i job held (walk_after job.walk b.cells) (answer_of (says b.cells job)) one in
+    (set_jobs b.desks i (stepped b.setup i b.cells job held).0 all both.0, both.1)
+
+served_short : (b : BenchState) (c : Call) → AreShortJobs b.desks → IsShortCall c → AreShortJobs (served b c).0.desks × IsTableReply (served b c).1
+served_short b (Take i item a segment) all short =
+    let desk : Desk = record { job = new_job b.setup i item a segment; held = (desk_at b.desks i).held } in
+    (set_jobs b.desks i desk all (job_short item a segment [] (next_move b.setup i a segment [] []).next short), tt)
+served_short b (Step i) all short = step_short b i (job_at b.desks i) all (all i)
+served_short b (Crash i) all short = (set_jobs b.desks i empty_desk all tt, tt)
+served_short b (Fail place) all short = (all, tt)
+
+pub answers_short : (n : ℕ) (b : BenchState) (h : List (Entry Call)) → AreShortJobs b.desks → AllByRecursion (λ (e : Entry Call). IsShortCall e.call) h → AllByRecursion (λ (a : Answer). IsTableReply a.1) (answered n b h)
+answers_short n b [] all short = tt
+answers_short n b (e ∷ h) all short =
+    let one = served_short b e.call all short.0 in
+    by (nat_eq e.seat n) one.1 (answers_short n (served b e.call).0 h one.0 short.1)
+  where
+    by : (t : Bool) → IsTableReply (served b e.call).1 → AllByRecursion (λ (a : Answer). IsTableReply a.1) (answered n (served b e.call).0 h)
+        → AllByRecursion (λ (a : Answer). IsTableReply a.1) (if t then (e.call, (served b e.call).1) ∷ answered n (served b e.call).0 h else answered n (served b e.call).0 h)
+    by true is rest = (is, rest)
+    by false is rest = rest
+
+no_jobs : (n : ℕ) → AreShortJobs (replicate n empty_desk)
+no_jobs zero i = tt
+no_jobs (suc n) zero = tt
+no_jobs (suc n) (suc i) = no_jobs n i
+
+pub opening_short : (setup : SetupView) (shard : ℕ) → AreShortJobs (opening setup shard).desks
+opening_short setup shard = no_jobs setup.instances

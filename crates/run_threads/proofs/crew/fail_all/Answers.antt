@@ -1,0 +1,11 @@
+use Rattle.bench.specs.Blocks.{fail_at}
+use Rattle.run_threads.proofs.Crews.{made_more, flat_range}
+use Rattle.run_threads.proofs.crew.fail_all.Goals as goal
+
+pub loop-shard-preserved : goal.loop-shard-preserved
+loop-shard-preserved g c =
+    let calls = fail_at c.args.setup.now c.args.replica in record {
+      made = made_more c.args.setup.now c.args.locks.now c.args.seats.now c.loop-shard.seats c.fail_shard.new.seats _ (calls c.loop-shard.shard) _
+          c.loop-shard.invariant.made c.in_ok-fail_shard.ensures.made (flat_range calls c.loop-shard.shard);
+      crew = c.fail_shard.ensures.crew;
+    }

@@ -1,0 +1,12 @@
+pub mod Answered
+pub mod Crews
+pub mod Due
+pub mod Handling
+pub mod Items
+pub mod Laws
+pub mod Outs
+pub mod Pool
+pub mod Run
+pub mod Seats
+pub mod Stays
+pub mod Work

@@ -1,0 +1,23 @@
+-- What is sent fits packets.
+use Rattle.std.specs.Prelude.{ℕ, ◌<◌, ◌≤◌, length}
+use Rattle.std.specs.List.{AllByRecursion}
+use Rattle.bench.specs.Blocks.{IsTold}
+use Rattle.bench.specs.declared.call.Reply.{Reply}
+use Rattle.bench.specs.declared.call.Reply.TheVariants as reply
+use Rattle.tcp_segment.specs.declared.segment.Segment.{Segment}
+use Rattle.tcp_segment.specs.Written.{written_length}
+
+-- the segment fits a packet
+abbrev pub IsShort : Segment → Type 0
+IsShort out = written_length out.head (length out.body) ≤ 65515
+
+-- a reply's verdict is neither of a crash nor of want of memory, and each segment that it names fits a packet
+abbrev pub IsTableReply : Reply → Type 0
+IsTableReply (reply.Done verdict outs) = IsTold verdict × AllByRecursion IsShort outs
+IsTableReply reply.Going = Unit {0}
+IsTableReply reply.Idle = Unit {0}
+IsTableReply reply.Noted = Unit {0}
+
+-- the segment fits a packet, and was sent for one of so many records
+abbrev pub IsSent : ℕ → ℕ × Segment → Type 0
+IsSent records out = IsShort out.1 × (out.0 < records)

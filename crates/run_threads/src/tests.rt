@@ -1,0 +1,386 @@
+ghost use Rattle.std.specs.Prelude.{◌≡◌, ◌≤◌, length, None, IfOk, IfSome};
+ghost use Rattle.bench.specs.Inputs.{IsInputs};
+ghost use Rattle.pcap_file.specs.Frames.{capture_of, left_of};
+
+use crate::{Gate, OpenGate, RunResult, run_all};
+use bench::Call;
+use bench::input::{Inputs, TRACE_BYTES, TRACE_RECORDS};
+use flow_id::{Flow, candidate, marks_of};
+use job_core::Verdict;
+use journal_text::journal;
+use pcap_file::{Reader, write_header, write_record};
+use rule_table::{Choices, Rule, Server, Service, Setup, Sizes, Text};
+use script_text::script_of;
+use seq_space::Num;
+use std::alloc::{AllocError, Global};
+use std::sync::Wait;
+use std::sync::atomic::{AtomicU64, Ordering};
+use std::test::Fail;
+use std::thread::Threads;
+use tcp_segment::{ACK, Bytes, FIN, Head, Options, PSH, SYN, Segment, write};
+
+const CLIENT: (u32, u16) = (0xc000_0207, 40000);
+
+const SERVER: (u32, u16) = (0x0a00_0001, 8080);
+
+const SERVICE: (u32, u16) = (0xc633_640a, 80);
+
+const SECRET: [u8; 32] = [
+    0, 1, 2, 3, 4, 5, 6, 7, 8, 9, 10, 11, 12, 13, 14, 15, 16, 17, 18, 19, 20, 21, 22, 23, 24, 25,
+    26, 27, 28, 29, 30, 31,
+];
+
+/// The client's request head, of 69 bytes.
+const HEAD: &[u8] =
+    b"GET /cart/1 HTTP/1.1\r\nHost: Shop.Example:80\r\nCookie: id=9; beta=1\r\n\r\n";
+
+/// A segment: from where, to where, its number and its acknowledgment, its flags and its data.
+type Row<'a> = ((u32, u16), (u32, u16), (u32, u32), u8, &'a [u8]);
+
+/// So many instances, three copies of each record, four shards and one server.
+fn shop(alloc: Global, instances: u16) -> Result<Setup, AllocError>
+    requires some { 1 ≤ instances }
+    requires few { instances ≤ 16 }
+{
+    let sizes = Sizes {
+        instances,
+        replicas: 3,
+        copies: 3,
+        shards: 4,
+        secret: SECRET,
+    };
+    let service = Service {
+        number: 0,
+        address: 0xc633_640a,
+        port: 80,
+    };
+    let mut servers = Vec::new(alloc);
+    servers.push(Server {
+        address: 0x0a00_0001,
+        port: 8080,
+    })?;
+    let mut rules = Vec::new(alloc);
+    rules.push(Rule {
+        host: None,
+        path: Some(Text::new(Vec::from_slice(alloc, b"/cart")?)),
+        cookie: None,
+        to: Choices::new(Vec::from_slice(alloc, &[(0, 1)])?),
+    })?;
+    Ok(Setup::make(sizes, service, servers, rules))
+}
+
+/// The packet of a segment.
+fn packet_of(alloc: Global, row: &Row<'_>) -> Result<Vec<u8>, Fail> {
+    let (from, to, numbers, flags, body) = row;
+    if body.len() > 1460 {
+        return Err("too much data".into());
+    }
+    let segment = Segment {
+        source: from.0,
+        target: to.0,
+        head: Head {
+            source_port: from.1,
+            target_port: to.1,
+            seq: Num(numbers.0),
+            ack: Num(numbers.1),
+            flags: *flags,
+            window: 64240,
+            urgent: 0,
+            options: Options::none(),
+        },
+        body: Bytes::new(Vec::from_slice(alloc, body)?),
+    };
+    let mut packet = Vec::new(alloc);
+    write(&segment, &mut packet)?;
+    Ok(packet)
+}
+
+/// Adds a record of this packet to a capture.
+fn add_packet(trace: &mut Vec<u8>, packet: &[u8]) -> Result<(), Fail> {
+    if packet.len() > 65535 {
+        return Err("too long a packet".into());
+    }
+    Ok(write_record(1, 0, packet, trace)?)
+}
+
+/// How many frames a reader has left, where it finds no fault.
+fn counted(mut reader: Reader, trace: &[u8]) -> Option<usize>
+    requires fits { length trace.now ≤ TRACE_BYTES }
+    requires inside { reader.place ≤ length trace.now }
+    ensures frames { IfSome result (λ n. n ≡ length (left_of reader trace.now).frames) }
+    ensures whole { IfSome result (λ n. (left_of reader trace.now).fault ≡ None) }
+{
+    let mut frames = 0;
+    loop {
+        match reader.next(trace) {
+            Ok(Some(_)) => frames += 1,
+            Ok(None) => return Some(frames),
+            Err(_) => return None,
+        }
+    }
+}
+
+/// How many records a capture has, where it is one.
+fn records_of(trace: &[u8]) -> Option<usize>
+    requires { length trace.now ≤ TRACE_BYTES }
+    ensures frames { IfSome result (λ n. n ≡ length (capture_of trace.now).frames) }
+    ensures whole { IfSome result (λ n. (capture_of trace.now).fault ≡ None) }
+{
+    match Reader::open(trace) {
+        Ok(reader) => counted(reader, trace),
+        Err(_) => None,
+    }
+}
+
+/// The inputs of a run over a capture, for so many instances and with this script.
+fn inputs_over(alloc: Global, instances: u16, trace: Vec<u8>, script: &[u8]) -> Result<Inputs, Fail>
+    requires some { 1 ≤ instances }
+    requires few { instances ≤ 16 }
+    ensures { IfOk result IsInputs }
+{
+    let setup = shop(alloc, instances)?;
+    let Ok(script) = script_of(alloc, script, setup.instances(), setup.replicas()) else {
+        return Err("no script".into());
+    };
+    if trace.len() as u64 > TRACE_BYTES {
+        return Err("too long a capture".into());
+    }
+    let Some(records) = records_of(&trace) else {
+        return Err("no capture".into());
+    };
+    if records > TRACE_RECORDS as usize {
+        return Err("too many records".into());
+    }
+    Ok(Inputs {
+        setup,
+        trace: Bytes::new(trace),
+        script,
+        records: records as u32,
+    })
+}
+
+/// The inputs of a run over these segments, for so many instances and with this script.
+fn inputs_of(alloc: Global, instances: u16, rows: &[Row<'_>], script: &[u8]) -> Result<Inputs, Fail>
+    requires some { 1 ≤ instances }
+    requires few { instances ≤ 16 }
+    ensures { IfOk result IsInputs }
+{
+    let mut trace = Vec::new(alloc);
+    write_header(&mut trace)?;
+    for row in rows {
+        add_packet(&mut trace, &packet_of(alloc, row)?)?;
+    }
+    inputs_over(alloc, instances, trace, script)
+}
+
+/// A SYN of a client from this port.
+fn syn(port: u16) -> Row<'static> {
+    ((CLIENT.0, port), SERVICE, (1000, 0), SYN, b"")
+}
+
+/// What the client acknowledges first, and the port from which its server is asked first.
+fn marks() -> (u32, u16) {
+    let flow = Flow {
+        service: 0,
+        address: CLIENT.0,
+        port: CLIENT.1,
+        life: 0,
+    };
+    let marks = marks_of(&SECRET, &flow);
+    (marks.forged.wrapping_add(1), candidate(&marks, 3, 4, 0))
+}
+
+/// The journal of a run.
+fn journal_of(alloc: Global, done: &RunResult) -> Result<Vec<u8>, AllocError> {
+    let mut out = Vec::new(alloc);
+    journal(&done.histories, &mut out)?;
+    Ok(out)
+}
+
+/// The journal of a run of records that instance 1 handles on shard 3 of four, each with so many steps.
+fn lines_of(alloc: Global, steps: &[u32]) -> Result<String, AllocError> {
+    let mut text = String::from_str(alloc, "shard 0\nshard 1\nshard 2\nshard 3\n")?;
+    for (item, count) in steps.iter().enumerate() {
+        write!(text, "take 1 {item}\n")?;
+        for _ in 0..*count {
+            text.push_str("step 1\n")?;
+        }
+    }
+    Ok(text)
+}
+
+/// A whole flow, from the client's SYN to the last acknowledgment: what became of each segment, and the journal.
+#[test]
+fn a_whole_flow_has_its_journal(rt: HostRuntime) -> Result<(), Fail> {
+    let alloc = rt.alloc();
+    let (y, port) = marks();
+    let near = (SERVICE.0, port);
+    let data = [b'x'; 200];
+    let later = y.wrapping_add(200);
+    let last = y.wrapping_add(201);
+    let rows: [Row<'_>; 10] = [
+        (CLIENT, SERVICE, (1000, 0), SYN, b""),
+        (CLIENT, SERVICE, (1001, y), ACK, b""),
+        (CLIENT, SERVICE, (1001, y), PSH + ACK, HEAD),
+        (SERVER, near, (70000, 1001), SYN + ACK, b""),
+        (SERVER, near, (70001, 1070), ACK, b""),
+        (SERVER, near, (70001, 1070), PSH + ACK, &data),
+        (CLIENT, SERVICE, (1070, later), ACK, b""),
+        (SERVER, near, (70201, 1070), FIN + ACK, b""),
+        (CLIENT, SERVICE, (1070, last), FIN + ACK, b""),
+        (SERVER, near, (70202, 1071), ACK, b""),
+    ];
+    let verdicts = [
+        Verdict::Answered,
+        Verdict::Waiting,
+        Verdict::Asked { server: 0, port },
+        Verdict::Opened,
+        Verdict::Forwarded,
+        Verdict::Forwarded,
+        Verdict::Forwarded,
+        Verdict::Forwarded,
+        Verdict::Forwarded,
+        Verdict::Forwarded,
+    ];
+    let inputs = inputs_of(alloc, 2, &rows, b"")?;
+    let done = run_all(&rt, alloc, &inputs, &OpenGate)?;
+    let lines = done.result.lines.as_slice();
+    assert!(rt;
+        lines
+            .iter()
+            .map(|l| (l.instance, l.verdict))
+            .eq(verdicts.iter().map(|v| (Some(1), *v)))
+    );
+    assert_eq!(rt; done.result.outs.as_slice().len(), 10);
+    let wanted = lines_of(alloc, &[3, 4, 10, 9, 9, 9, 6, 12, 9, 9])?;
+    assert!(rt; journal_of(alloc, &done)?.as_slice() == wanted.as_bytes());
+    Ok(())
+}
+
+/// How many calls a run made of each kind: takes, steps, crashes and failures.
+fn counts(done: &RunResult) -> [u64; 4] {
+    let mut counts = [0u64; 4];
+    for history in &done.histories {
+        for entry in history {
+            let kind = match &entry.call {
+                Call::Take { .. } => 0,
+                Call::Step { .. } => 1,
+                Call::Crash { .. } => 2,
+                Call::Fail { .. } => 3,
+            };
+            counts[kind] = counts[kind].wrapping_add(1);
+        }
+    }
+    counts
+}
+
+/// SYNs of clients from so many ports, which stand for two instances in turn: what becomes of the first one, and how many
+/// calls there are. The others are answered.
+#[test]
+fn scripts_are_run(rt: HostRuntime) -> Result<(), Fail> {
+    let alloc = rt.alloc();
+    let rows: [(u16, u16, &[u8], Verdict, [u64; 4]); 6] = [
+        (2, 2, b"", Verdict::Answered, [2, 6, 0, 0]),
+        // The crash comes within the handling, and right after the take.
+        (
+            2,
+            2,
+            b"crash 1 at 0 after 1\nback 1 at 1\n",
+            Verdict::Crashed,
+            [2, 4, 4, 0],
+        ),
+        (
+            2,
+            2,
+            b"crash 1 at 0 after 0\nfail 2 at 1\n",
+            Verdict::Crashed,
+            [2, 3, 4, 4],
+        ),
+        // .. right after the handling, and while another instance handles the record.
+        (
+            2,
+            2,
+            b"crash 1 at 0 after 88\n",
+            Verdict::Answered,
+            [2, 6, 4, 0],
+        ),
+        (
+            2,
+            2,
+            b"crash 0 at 0 after 5\nback 0 at 1\n",
+            Verdict::Answered,
+            [2, 6, 4, 0],
+        ),
+        (
+            16,
+            32,
+            b"fail 0 at 3\nfail 1 at 18\n",
+            Verdict::Answered,
+            [32, 96, 0, 8],
+        ),
+    ];
+    for (instances, clients, script, first, calls) in rows {
+        let mut syns = Vec::new(alloc);
+        for client in 0..clients {
+            syns.push(syn(40000 + client % 100))?;
+        }
+        if instances == 0 || instances > 16 {
+            return Err("no such instances".into());
+        }
+        let inputs = inputs_of(alloc, instances, &syns, script)?;
+        let done = run_all(&rt, alloc, &inputs, &OpenGate)?;
+        let lines = done.result.lines.as_slice();
+        assert_eq!(rt; lines.len(), clients as usize);
+        assert!(rt; lines.iter().take(1).all(|l| l.verdict == first));
+        assert!(rt; lines.iter().skip(1).all(|l| l.verdict == Verdict::Answered));
+        assert!(rt; counts(&done) == calls);
+    }
+    Ok(())
+}
+
+/// Holds the first record of one worker until the other worker has handled one.
+#[derive(Drop)]
+struct Holding {
+    held: u16,
+    left: AtomicU64,
+    met: AtomicU64,
+}
+
+impl Gate for Holding {
+    fn enter(&self, worker: u16, _item: u32) {
+        if worker != self.held {
+            return;
+        }
+        for _ in 0..10_000_000 {
+            if self.left.load(Ordering::SeqCst) == 1 {
+                self.met.store(1, Ordering::SeqCst);
+                return;
+            }
+        }
+    }
+
+    fn leave(&self, worker: u16, _item: u32) {
+        if worker != self.held {
+            self.left.store(1, Ordering::SeqCst);
+        }
+    }
+}
+
+/// Whether the worker that is held sees the other one handle a record while it is held.
+fn overlaps<R: Threads + Wait + Sync>(rt: &R, alloc: Global, held: u16) -> Result<bool, Fail> {
+    let inputs = inputs_of(alloc, 2, &[syn(40000), syn(40001)], b"")?;
+    let gate = Holding {
+        held,
+        left: AtomicU64::new(0),
+        met: AtomicU64::new(0),
+    };
+    let done = run_all(rt, alloc, &inputs, &gate)?;
+    Ok(gate.met.load(Ordering::SeqCst) == 1 && done.result.lines.as_slice().len() == 2)
+}
+
+#[test]
+fn two_workers_run_at_once(rt: HostRuntime) -> Result<(), Fail> {
+    assert!(rt; overlaps(&rt, rt.alloc(), 1)?);
+    assert!(rt; overlaps(&rt, rt.alloc(), 0)?);
+    Ok(())
+}
