@@ -1,6 +1,6 @@
 -- Lines and their ends: what a line feed ends is a line, and a line without its end gives both back.
 use Rattle.std.proofs.Common.{◌≡◌, ℕ, ◌+◌, ◌<◌, Bool, true, false, eqb, ltb, ◌≤◌, inl, inr, Some, None, take, drop, position, List, [], ◌∷◌, ◌++◌, length, refl, sym, ap, ◌∙◌, arith, append_assoc, All, IsTrue}
-use Rattle.std.specs.List.{join_with_byte, onto_first, position_or_len}
+use Rattle.std.specs.List.{slice_split, join_with_byte, onto_first, position_or_len}
 use Rattle.std.proofs.lemmas.List.Sums.{fails_before_first}
 use Rattle.std.proofs.lemmas.Bool.{ltb-true, ltb-false, eqb-true, false_from_ne_true, cond-true, cond-false, cond_both, both_ways}
 use Rattle.std.proofs.lemmas.List.Elements.{All-append, All-cons, All-nil, All-head, All-tail, All-weaker}
@@ -91,25 +91,33 @@ joined-line line (next ∷ lines) ended =
     sym (append_assoc line (10 ∷ []) rest) ∙ ap (λ xs. xs ++ rest) (without_end_sound line)
     ∙ append_assoc (without_end line).0 (print_end (without_end line).1) rest
 
--- the lines by the place of the first line feed
-pub lines_of-first : (bytes : List ℕ) (end : ℕ) → position (λ b. eqb b 10) bytes ≡ Some end
-    → lines_of bytes ≡ take end bytes ∷ lines_of (drop (end + 1) bytes)
-lines_of-first bytes end e =
-    let n = position_or_len (λ b. eqb b 10) bytes in
+-- the parts between bytes of one value, by the place of the first of these
+pub parts-first : (c : ℕ) (bytes : List ℕ) (end : ℕ) → position (λ b. eqb b c) bytes ≡ Some end
+    → slice_split (λ b. eqb b c) bytes ≡ take end bytes ∷ slice_split (λ b. eqb b c) (drop (end + 1) bytes)
+parts-first c bytes end e =
+    let n = position_or_len (λ b. eqb b c) bytes in
     elim (cond_is (ltb n (length bytes)) (Some n) None (Some end) e) [
       | inl found ↦
           let same : n ≡ end = cc in
-          slice_split_first (λ b. eqb b 10) bytes 0 (ltb-true n (length bytes) found.0)
-          ∙ ap (λ k. take k bytes ∷ lines_of (drop (k + 1) bytes)) same
+          slice_split_first (λ b. eqb b c) bytes 0 (ltb-true n (length bytes) found.0)
+          ∙ ap (λ k. take k bytes ∷ slice_split (λ b. eqb b c) (drop (k + 1) bytes)) same
       | inr none ↦ absurd cc
     ]
 
-pub lines_of-last : (bytes : List ℕ) → position (λ b. eqb b 10) bytes ≡ None → lines_of bytes ≡ bytes ∷ []
-lines_of-last bytes e =
-    let n = position_or_len (λ b. eqb b 10) bytes in
+pub parts-last : (c : ℕ) (bytes : List ℕ) → position (λ b. eqb b c) bytes ≡ None → slice_split (λ b. eqb b c) bytes ≡ bytes ∷ []
+parts-last c bytes e =
+    let n = position_or_len (λ b. eqb b c) bytes in
     elim (cond_is (ltb n (length bytes)) (Some n) None None e) [
       | inl found ↦ absurd cc
       | inr none ↦
           let past : length bytes ≤ n = ltb-false n (length bytes) none.0 in
-          slice_split_none (λ b. eqb b 10) bytes (λ k d inside. fails_before_first (λ b. eqb b 10) bytes k d (omega arith))
+          slice_split_none (λ b. eqb b c) bytes (λ k d inside. fails_before_first (λ b. eqb b c) bytes k d (omega arith))
     ]
+
+-- the lines by the place of the first line feed
+pub lines_of-first : (bytes : List ℕ) (end : ℕ) → position (λ b. eqb b 10) bytes ≡ Some end
+    → lines_of bytes ≡ take end bytes ∷ lines_of (drop (end + 1) bytes)
+lines_of-first = parts-first 10
+
+pub lines_of-last : (bytes : List ℕ) → position (λ b. eqb b 10) bytes ≡ None → lines_of bytes ≡ bytes ∷ []
+lines_of-last = parts-last 10

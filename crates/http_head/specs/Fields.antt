@@ -1,8 +1,9 @@
 -- What a request head tells: its length, its target, its Host value, and the pairs of its Cookie fields
 -- (RFC 9112, 3.2; RFC 6265, 4.2).
-use Rattle.std.specs.Prelude.{ℕ, Bool, true, false, ◌&&◌, ◌==◌, List, [], ◌∷◌, length, map, Option, Some, None, if◌then◌else◌, codes}
+use Rattle.std.specs.Prelude.{ℕ, Bool, true, false, ◌&&◌, ◌==◌, List, [], ◌∷◌, ◌++◌, length, map, Option, Some, None, if◌then◌else◌, codes}
 use Rattle.std.specs.Char.{to_ascii_lowercase}
 use Rattle.std.specs.List.{slice_split, list_any}
+use Rattle.std.specs.Borrow.{Bor}
 use Rattle.std.specs.Str.{bytes_eq}
 use Rattle.httparse.specs.Ascii.{semicolon}
 use Rattle.httparse.specs.Grammar.{trim_ows, print_request}
@@ -57,3 +58,21 @@ is_pair_field pair f = same_name f.0 (codes "cookie") && has_piece pair f.1
 -- whether a Cookie field of the head has the pair
 abbrev pub has_pair : Reading → List ℕ → Bool
 has_pair r pair = list_any (is_pair_field pair) (fields_of r)
+
+-- the pieces of a value, without the spaces and tabs around them
+abbrev pub pieces_of : List ℕ → List (List ℕ)
+pieces_of value = map trim_ows (slice_split (λ b. b == semicolon) value)
+
+-- those of a value of which something may be left
+abbrev pub pieces_left : Option (Bor (List ℕ)) → List (List ℕ)
+pieces_left None = []
+pieces_left (Some value) = pieces_of value.now
+
+-- the pieces of the Cookie fields among these
+abbrev pub cookies_in : List (List ℕ × List ℕ) → List (List ℕ)
+cookies_in [] = []
+cookies_in (f ∷ fields) = if same_name f.0 (codes "cookie") then pieces_of f.1 ++ cookies_in fields else cookies_in fields
+
+-- the pieces of a head's Cookie fields
+abbrev pub cookies_of : Reading → List (List ℕ)
+cookies_of r = cookies_in (fields_of r)

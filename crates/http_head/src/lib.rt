@@ -5,10 +5,12 @@
 mod cookie;
 mod laws;
 mod lines;
+mod pieces;
 mod read;
 
 pub use cookie::{Fields, fields_of, has_cookie, has_cookie_in};
 pub use laws::readings;
+pub use pieces::{Pieces, cookies};
 pub use read::{FIELD_LINES, HeadRead, HttpHead, Part, head};
 
 #[cfg(test)]

@@ -4,6 +4,8 @@
 //! of whose conditions hold is the one that matches, and it admits the servers that it gives a weight above 0.
 #![tactic(auto)]
 
+mod cookies;
+mod hashing;
 mod laws;
 mod matching;
 mod setup;

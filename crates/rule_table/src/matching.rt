@@ -1,12 +1,14 @@
 ghost use Rattle.std.specs.Prelude.{◌≡◌, ◌==◌, ◌≤◌, IfSome, length, position};
 ghost use Rattle.std.specs.List.{before_first};
 ghost use Rattle.weighted_pick.specs.Pick.{has_weight as has_weight_in};
-ghost use Rattle.http_head.specs.Parts.{AreFieldsOf, IsHeadOf, IsWithin, part_bytes};
+ghost use Rattle.http_head.specs.Parts.{IsHeadOf, IsWithin, part_bytes};
 ghost use Rattle.http_head.specs.Reading.{reading};
+ghost use Rattle.rule_table.specs.Found.{AreCookiesOf};
 ghost use Rattle.rule_table.specs.Matching.{applies as applies_to, gives_weight as gives_weight_in, has_path as has_path_of, matched_in, meets_cookie as meets_cookie_of, meets_host as meets_host_of, meets_path as meets_path_of, names_host as names_host_of, place_of};
 
+use crate::cookies::Cookies;
 use crate::types::{Rule, Server, Text};
-use http_head::{Fields, HttpHead, Part, fields_of, has_cookie_in};
+use http_head::{HttpHead, Part};
 
 /// The number of the first of the rules that the head matches, None exactly where it matches none.
 #[tactic(auto, unfolding(crate::specs::Matching::matched_in))]
@@ -17,7 +19,7 @@ pub fn first_match(rules: &[Rule], bytes: &[u8], head: &HttpHead) -> Option<u16>
 {
     let mut found = None;
     for (number, rule) in rules.iter().enumerate() {
-        if applies(rule, bytes, head, &mut found) {
+        if applies(rules, rule, bytes, head, &mut found) {
             return Some(number as u16);
         }
     }
@@ -59,17 +61,24 @@ pub fn server_in(servers: &[Server], address: u32, port: u16) -> Option<u16>
     None
 }
 
-/// Whether all conditions of the rule hold. The head's fields are found for the first cookie that is asked for, and kept
-/// for those after it.
-fn applies(rule: &Rule, bytes: &[u8], head: &HttpHead, found: &mut Option<Fields>) -> bool
+/// Whether all conditions of the rule, one of these, hold. The head's cookies are gone through for the first rule that
+/// asks for one, and what is found is kept for those after it.
+fn applies(
+    rules: &[Rule],
+    rule: &Rule,
+    bytes: &[u8],
+    head: &HttpHead,
+    found: &mut Option<Cookies>,
+) -> bool
+    requires few { length rules.now ≤ 256 }
     requires head { IsHeadOf bytes.now head.now }
-    requires found { IfSome found.old (AreFieldsOf bytes.now) }
+    requires found { IfSome found.old (AreCookiesOf rules.now bytes.now) }
     ensures applies { result ≡ applies_to (reading bytes.now) rule.now }
-    ensures found { IfSome found.new (AreFieldsOf bytes.now) }
+    ensures found { IfSome found.new (AreCookiesOf rules.now bytes.now) }
 {
     meets_host(&rule.host, bytes, head)
         && meets_path(&rule.path, bytes, head)
-        && meets_cookie(&rule.cookie, bytes, head, found)
+        && meets_cookie(rules, &rule.cookie, bytes, head, found)
 }
 
 /// Whether the host condition holds, if there is one.
@@ -97,25 +106,27 @@ fn meets_path(condition: &Option<Text>, bytes: &[u8], head: &HttpHead) -> bool
 
 /// Whether the cookie condition holds, if there is one.
 fn meets_cookie(
+    rules: &[Rule],
     condition: &Option<Text>,
     bytes: &[u8],
     head: &HttpHead,
-    found: &mut Option<Fields>,
+    found: &mut Option<Cookies>,
 ) -> bool
+    requires few { length rules.now ≤ 256 }
     requires head { IsHeadOf bytes.now head.now }
-    requires found { IfSome found.old (AreFieldsOf bytes.now) }
+    requires found { IfSome found.old (AreCookiesOf rules.now bytes.now) }
     ensures meets { result ≡ meets_cookie_of condition.now (reading bytes.now) }
-    ensures found { IfSome found.new (AreFieldsOf bytes.now) }
+    ensures found { IfSome found.new (AreCookiesOf rules.now bytes.now) }
 {
-    let Some(pair) = condition else {
+    let Some(cookie) = condition else {
         return true;
     };
     match found {
-        Some(fields) => has_cookie_in(bytes, fields, pair.as_slice()),
+        Some(cookies) => cookies.has(rules, bytes, cookie),
         None => {
-            let fields = fields_of(bytes, head);
-            let has = has_cookie_in(bytes, &fields, pair.as_slice());
-            *found = Some(fields);
+            let cookies = Cookies::of(rules, bytes, head);
+            let has = cookies.has(rules, bytes, cookie);
+            *found = Some(cookies);
             has
         }
     }

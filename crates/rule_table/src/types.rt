@@ -1,5 +1,7 @@
 ghost use Rattle.std.specs.Prelude.{◌≡◌, ℕ, IfOk, List};
+ghost use Rattle.rule_table.specs.Hash.{hash_of};
 
+use crate::hashing::hash;
 use std::alloc::AllocError;
 use std::marker::Model;
 
@@ -74,12 +76,18 @@ fn copy_of(condition: &Option<Text>) -> Result<Option<Text>, AllocError>
 #[derive(Debug, Drop)]
 pub struct Text {
     bytes: Vec<u8>,
+    hash: u32,
 }
 
 impl Model for Text {
+    ghost use Rattle.std.specs.Prelude.{◌≡◌, ℕ, List};
+    ghost use Rattle.rule_table.specs.Hash.{hash_of};
+
     ghost Value = { List ℕ };
 
     ghost view = { λ t. t.bytes.items };
+
+    ghost invariant = { λ t. t.hash ≡ hash_of t.bytes.items };
 }
 
 impl Text {
@@ -87,7 +95,8 @@ impl Text {
     pub fn new(bytes: Vec<u8>) -> Text
         ensures { result ≡ bytes.items }
     {
-        Text { bytes }
+        let hash = hash(bytes.as_slice());
+        Text { bytes, hash }
     }
 
     /// The bytes. It takes no memory.
@@ -97,12 +106,22 @@ impl Text {
         self.bytes.as_slice()
     }
 
+    /// The hash of the bytes.
+    pub(crate) fn hash(&self) -> u32
+        ensures { result ≡ hash_of self.now }
+    {
+        self.hash
+    }
+
     /// The same text once more. The one error is want of memory.
     pub fn copy(&self) -> Result<Text, AllocError>
         ensures { IfOk result (λ text. text ≡ self.now) }
     {
         let bytes = Vec::from_slice(*self.bytes.allocator(), self.bytes.as_slice())?;
-        Ok(Text { bytes })
+        Ok(Text {
+            bytes,
+            hash: self.hash,
+        })
     }
 }
 

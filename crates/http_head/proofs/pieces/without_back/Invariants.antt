@@ -1,6 +1,6 @@
 use Rattle.std.proofs.Common.{◌≡◌, length, reverse}
 use Rattle.httparse.specs.Grammar.{skip_ows}
-use Rattle.http_head.proofs.cookie.without_back.Given as goal
+use Rattle.http_head.proofs.pieces.without_back.Given as goal
 
 abbrev pub invariant-loop-rest : goal.invariant-loop-rest
 invariant-loop-rest l = skip_ows (reverse l.rest) ≡ skip_ows (reverse l.fn.bytes)

@@ -1,6 +1,6 @@
 use Rattle.std.proofs.Common.{◌≡◌, length}
 use Rattle.httparse.specs.Grammar.{skip_ows}
-use Rattle.http_head.proofs.cookie.without_front.Given as goal
+use Rattle.http_head.proofs.pieces.without_front.Given as goal
 
 abbrev pub invariant-loop-rest : goal.invariant-loop-rest
 invariant-loop-rest l = skip_ows l.rest ≡ skip_ows l.fn.bytes
