@@ -1,5 +1,5 @@
 -- Servers that differ, names that are servers', and rules that name each server once.
-use Rattle.std.proofs.Common.{◌≡◌, ◌≢◌, ℕ, suc, ◌+◌, ◌<◌, Bool, true, false, not, ◌&&◌, ◌||◌, eqb, List, [], ◌∷◌, ◌++◌, length, map, get_or, refl, sym, ap, subst, ◌∙◌, inl, inr, arith, append_assoc, All, AllPairs, Some, None, eq-eqb}
+use Rattle.std.proofs.Common.{◌≡◌, ◌≢◌, ℕ, suc, ◌+◌, ◌<◌, Bool, true, false, not, ◌&&◌, ◌||◌, eqb, List, [], ◌∷◌, ◌++◌, find, length, map, get_or, refl, sym, ap, subst, ◌∙◌, inl, inr, arith, append_assoc, All, AllPairs, Some, None, eq-eqb}
 use Rattle.std.specs.List.{list_any}
 use Rattle.std.specs.Str.{bytes_eq}
 use Rattle.std.proofs.lemmas.Bool.{and_from, or_parts, both_ways, cond-true, cond-false, not-false}
@@ -11,10 +11,11 @@ use Rattle.std.proofs.lemmas.Slice.Zip.{length-zip, get_or-zip}
 use Rattle.http_head.proofs.CaseLemmas.{cond_is}
 use Rattle.rule_table.specs.declared.types.Server.{Server}
 use Rattle.rule_table.specs.declared.types.Service.{Service}
-use Rattle.rule_text.specs.Checks.{clashes, first_clash, is_among, first_unknown, first_again}
-use Rattle.rule_text.specs.Document.{place_among, choices_of}
+use Rattle.rule_text.specs.Checks.{clashes, first_clash, is_among}
+use Rattle.rule_text.specs.Document.{place_among}
 use Rattle.rule_text.specs.Written.{Named}
 use Rattle.rule_text.proofs.SetupLemmas.{find_none, list_any_false}
+use Rattle.rule_text.proofs.StepLemmas.{choices_of}
 
 -- ---- servers
 
@@ -44,11 +45,11 @@ apart_push service earlier s are none =
       elsewhere = All-push (IsElsewhere service) earlier s are.elsewhere (λ same. both_ways _ parts.1 (eq-eqb _ _ same));
     }
 
-pub apart_from_none : (service : Service) (earlier servers : List Named) → AreApart service earlier → first_clash service earlier servers ≡ None
+pub apart_from_none : (service : Service) (earlier servers : List Named) → AreApart service earlier → first_clash (clashes service) earlier servers ≡ None
     → AreApart service (earlier ++ servers)
 apart_from_none service earlier [] are none = subst (AreApart service) (sym (append-nil earlier)) are
 apart_from_none service earlier (s ∷ servers) are none =
-    elim (cond_is (clashes service earlier s) (Some s.0) (first_clash service (earlier ++ s ∷ []) servers) None none) [
+    elim (cond_is (clashes service earlier s) (Some s) (first_clash (clashes service) (earlier ++ s ∷ []) servers) None none) [
       | inl clash ↦ absurd cc
       | inr fits ↦
           subst (AreApart service) (append_assoc earlier (s ∷ []) servers)
@@ -79,11 +80,11 @@ place_is (n ∷ names) name d among = at (bytes_eq n name) refl (place_is names 
         subst (λ k. (k < length (n ∷ names)) × (get_or (n ∷ names) k d ≡ name)) (sym here) next
 
 -- names that are not among those before them differ
-differ_from_none : (earlier names : List (List ℕ)) → AllPairs (λ m n. m ≢ n) earlier → first_again earlier names ≡ None
+differ_from_none : (earlier names : List (List ℕ)) → AllPairs (λ m n. m ≢ n) earlier → first_clash is_among earlier names ≡ None
     → AllPairs (λ m n. m ≢ n) (earlier ++ names)
 differ_from_none earlier [] are none = subst (AllPairs (λ m n. m ≢ n)) (sym (append-nil earlier)) are
 differ_from_none earlier (n ∷ names) are none =
-    elim (cond_is (is_among earlier n) (Some n) (first_again (earlier ++ n ∷ []) names) None none) [
+    elim (cond_is (is_among earlier n) (Some n) (first_clash is_among (earlier ++ n ∷ []) names) None none) [
       | inl again ↦ absurd cc
       | inr new ↦
           let others = list_any_false _ earlier new.0 in
@@ -118,7 +119,7 @@ choice_at names to weights k d inside =
     let placed : k < length places = omega (arith, same) in
     (named, ap (λ (c : ℕ × ℕ). c.0) (get_or-zip places weights k d placed weighed) ∙ get_or-map (place_among names) to k [] d.0 named)
 
-pub choices_are : (names to : List (List ℕ)) (weights : List ℕ) → first_unknown names to ≡ None → first_again [] to ≡ None
+pub choices_are : (names to : List (List ℕ)) (weights : List ℕ) → find (λ n. not (is_among names n)) to ≡ None → first_clash is_among [] to ≡ None
     → AreChoices (length names) (choices_of names to weights)
 choices_are names to weights unknown again =
     let others = find_none (λ n. not (is_among names n)) to unknown in

@@ -1,28 +1,29 @@
 -- What the steps through a rules file answer is a setup.
-use Rattle.std.proofs.Common.{◌≡◌, ℕ, ℤ, pos, nat_abs, codes, suc, ◌+◌, ◌≤◌, Bool, true, false, ◌&&◌, leb, List, [], ◌∷◌, length, refl, sym, ap, subst, ◌∙◌, inl, inr, cond, arith, All, find, IfSome, IsTrue, Option, Some, None, Result, Ok, Err}
+use Rattle.std.proofs.Common.{◌≡◌, ℕ, ℤ, pos, nat_abs, codes, suc, ◌+◌, ◌≤◌, Bool, true, false, ◌&&◌, leb, List, [], ◌∷◌, length, refl, sym, ap, subst, ◌∙◌, inl, inr, cond, arith, All, find, IfSome, IsTrue, Option, Some, None, option_map, Result, Ok, Err}
 use Rattle.std.specs.List.{list_any}
+use Rattle.std.specs.Option.{is_some, ok_or, option_and_then}
+use Rattle.std.specs.Result.{result_ok}
 use Rattle.std.specs.Prelude.{int_le, negsuc}
 use Rattle.std.proofs.lemmas.Bool.{and_parts, or_parts, leb-true, false≢true}
 use Rattle.std.proofs.lemmas.List.Elements.{All-nil, All-cons}
 use Rattle.http_head.proofs.CaseLemmas.{cond_is, and_then_is, map_is}
-use Rattle.toml.specs.Data.{Data, Members, get_member, integer, as_table}
+use Rattle.toml.specs.Data.{Data, Members, get_member, as_array, as_integer, as_str, as_table}
 use Rattle.hex.specs.Hex.{decode_sized}
 use Rattle.hex.specs.declared.error.FromHexError.{FromHexError}
 use Rattle.hex.proofs.HexLemmas.{decode_sized-ok, decode_sized-twice, decode_of-ok}
 use Rattle.rule_table.specs.Setups.{is_shard_count}
 use Rattle.rule_table.specs.declared.types.Sizes.{Sizes}
 use Rattle.rule_text.specs.declared.fault.RuleFault.{RuleFault}
+use Rattle.rule_text.specs.declared.fault.RuleFault.TheVariants.{Missing}
 use Rattle.rule_text.specs.declared.fault.Place.{Place}
 use Rattle.rule_text.specs.declared.fault.Place.TheVariants.{Top, Rule}
-use Rattle.rule_text.specs.declared.forms.Condition.{Condition}
-use Rattle.rule_text.specs.declared.forms.Condition.TheVariants.{Host, Path, Cookie}
 use Rattle.rule_table.specs.Forms.{is_host, is_path, is_cookie}
 use Rattle.rule_text.specs.Names.{field_name}
-use Rattle.rule_text.specs.Checks.{unless_any, all_pass, every}
-use Rattle.rule_text.specs.Forms.{decoded, secret_of}
+use Rattle.rule_text.specs.Checks.{unless_any, every}
+use Rattle.rule_text.specs.Forms.{is_server_name, kept_if, secret_of}
 use Rattle.rule_text.specs.Steps.{◌>>=◌, each}
-use Rattle.rule_text.specs.Values.{value_at, whole_within, whole, whole_at, or_form, array_of, array_at, all_of, text, word, text_at}
-use Rattle.rule_text.specs.Written.{Written, allows, key_of, optional, condition_at, to_at, weights_at, rule_of, shards_of, secret_at, sizes_of, tables_at}
+use Rattle.rule_text.specs.Values.{field_at, whole_within, whole_at, list_of, list_within, array_at, all_of, text_at}
+use Rattle.rule_text.specs.Written.{Written, condition_at, weights_at, rule_of, shards_of, sizes_of}
 
 -- ---- what an answer that is there says of how it was made
 
@@ -38,9 +39,9 @@ test_is : {A : Type 0} (test : Bool) (x y : A) (fault : RuleFault) → cond test
 test_is true x y fault e = (refl, cc)
 test_is false x y fault e = absurd cc
 
-or_form_is : {A : Type 0} (name : List ℕ) (o : Option A) (a : A) → or_form name o ≡ Ok a → o ≡ Some a
-or_form_is name None a e = absurd cc
-or_form_is name (Some x) a e = cc
+or_is : {A : Type 0} (o : Option A) (fault : RuleFault) (a : A) → ok_or o fault ≡ Ok a → o ≡ Some a
+or_is None fault a e = absurd cc
+or_is (Some x) fault a e = cc
 
 -- ---- numbers
 
@@ -56,16 +57,12 @@ whole_within_limits name low high z n e =
     let test = test_is (int_le (pos low) z && int_le z (pos high)) (nat_abs z) n _ e in
     subst (λ m. (low ≤ m) × (m ≤ high)) test.1 (limits_from_tests low high z test.0)
 
-whole_limits : (name : List ℕ) (low high : ℕ) (d : Data) (n : ℕ) → whole name low high d ≡ Ok n → (low ≤ n) × (n ≤ high)
-whole_limits name low high (integer z) n e = whole_within_limits name low high z n e
-whole_limits name low high _ n e = absurd cc
-
 whole_at_limits : (place : Place) (key : List ℕ) (low high : ℕ) (ms : Members) (n : ℕ) → whole_at place key low high ms ≡ Ok n
     → (low ≤ n) × (n ≤ high)
 unfolding whole_at
 whole_at_limits place key low high ms n e =
-    let value = bind_is (value_at place key ms) _ n e in
-    whole_limits _ low high value.0 n value.2
+    let value = bind_is (field_at as_integer place key ms) _ n e in
+    whole_within_limits _ low high value.0 n value.2
 
 -- ---- sizes
 
@@ -84,15 +81,15 @@ shards_hold ms n e =
     let test = test_is (is_shard_count number.0) number.0 n _ number.2 in
     ap is_shard_count (sym test.1) ∙ test.0
 
-decoded_is : (r : Result (List ℕ) FromHexError) (bytes : List ℕ) → decoded r ≡ Some bytes → r ≡ Ok bytes
+decoded_is : (r : Result (List ℕ) FromHexError) (bytes : List ℕ) → result_ok r ≡ Some bytes → r ≡ Ok bytes
 decoded_is (Ok bytes) other e = cc
 decoded_is (Err fault) other e = absurd cc
 
-secret_holds : (ms : Members) (secret : List ℕ) → secret_at ms ≡ Ok secret → length secret ≡ 32
-unfolding secret_at secret_of
+secret_holds : (ms : Members) (secret : List ℕ) → text_at secret_of Top (codes "secret") ms ≡ Ok secret → length secret ≡ 32
+unfolding text_at secret_of
 secret_holds ms secret e =
-    let text = bind_is (text_at Top (codes "secret") ms) _ secret e in
-    let some = or_form_is _ (secret_of text.0) secret text.2 in
+    let text = bind_is (field_at as_str Top (codes "secret") ms) _ secret e in
+    let some = or_is (secret_of text.0) _ secret text.2 in
     let decodes = decoded_is (decode_sized text.0 32) secret some in
     let long = decode_sized-ok text.0 32 secret decodes in
     let twice = decode_of-ok text.0 secret (sym (decode_sized-twice text.0 32 long) ∙ decodes) in
@@ -105,7 +102,7 @@ sizes_hold ms sizes e =
     let replicas = bind_is (whole_at Top (codes "replicas") 1 8 ms) _ sizes instances.2 in
     let copies = bind_is (whole_at Top (codes "copies") 1 replicas.0 ms) _ sizes replicas.2 in
     let shards = bind_is (shards_of ms) _ sizes copies.2 in
-    let secret = bind_is (secret_at ms) _ sizes shards.2 in
+    let secret = bind_is (text_at secret_of Top (codes "secret") ms) _ sizes shards.2 in
     subst AreSizes (ok_is secret.2) (record {
       instances = whole_at_limits Top _ 1 16 ms instances.0 instances.1;
       replicas = whole_at_limits Top _ 1 8 ms replicas.0 replicas.1;
@@ -116,15 +113,16 @@ sizes_hold ms sizes e =
 
 -- ---- arrays
 
-array_at_limits : (place : Place) (key : List ℕ) (low high : ℕ) (ms : Members) (ds : List Data) → array_at place key low high ms ≡ Ok ds
-    → (low ≤ length ds) × (length ds ≤ high)
-unfolding array_at
-array_at_limits place key low high ms ds e =
-    let value = bind_is (value_at place key ms) _ ds e in
-    let found = bind_is (or_form _ (array_of value.0)) _ ds value.2 in
-    let test = test_is (leb low (length found.0) && leb (length found.0) high) found.0 ds _ found.2 in
-    let parts = and_parts (leb low (length found.0)) (leb (length found.0) high) test.0 in
-    subst (λ xs. (low ≤ length xs) × (length xs ≤ high)) test.1 (leb-true _ _ parts.0, leb-true _ _ parts.1)
+list_within_limits : (low high : ℕ) (d : Data) (ds : List Data) → list_within low high d ≡ Some ds → (low ≤ length ds) × (length ds ≤ high)
+list_within_limits low high d ds e =
+    let found = and_then_is _ (option_map list_of (as_array d)) ds e in
+    elim (cond_is (leb low (length found.0) && leb (length found.0) high) (Some found.0) None (Some ds) found.2) [
+      | inl fits ↦
+          let parts = and_parts (leb low (length found.0)) (leb (length found.0) high) fits.0 in
+          let same : found.0 ≡ ds = let some = fits.1 in cc in
+          subst (λ xs. (low ≤ length xs) × (length xs ≤ high)) same (leb-true _ _ parts.0, leb-true _ _ parts.1)
+      | inr other ↦ absurd (let none = other.1 in cc)
+    ]
 
 length-all_of : {A B : Type 0} (f : A → Option B) (xs : List A) (ys : List B) → all_of f xs ≡ Some ys → length ys ≡ length xs
 length-all_of f [] ys e = let same : [] ≡ ys = cc in sym (ap length same)
@@ -134,13 +132,14 @@ length-all_of f (x ∷ xs) ys e =
     let more = length-all_of f xs rest.0 rest.1 in
     sym (ap length rest.2) ∙ ap suc more
 
-pub tables_at_limits : (key : List ℕ) (ms : Members) (tables : List Members) → tables_at key ms ≡ Ok tables
+pub tables_at_limits : (key : List ℕ) (ms : Members) (tables : List Members) → array_at as_table 1 256 Top key ms ≡ Ok tables
     → (1 ≤ length tables) × (length tables ≤ 256)
-unfolding tables_at
+unfolding array_at
 tables_at_limits key ms tables e =
-    let found = bind_is (array_at Top key 1 256 ms) _ tables e in
-    let same = length-all_of as_table found.0 tables (or_form_is _ (all_of as_table found.0) tables found.2) in
-    let limits = array_at_limits Top key 1 256 ms found.0 found.1 in
+    let found = bind_is (field_at (list_within 1 256) Top key ms) _ tables e in
+    let same = length-all_of as_table found.0 tables (or_is (all_of as_table found.0) _ tables found.2) in
+    let value = bind_is (ok_or (get_member key ms) (Missing (field_name Top key))) _ found.0 found.1 in
+    let limits = list_within_limits 1 256 value.0 found.0 (or_is (list_within 1 256 value.0) _ found.0 value.2) in
     (omega arith, omega arith)
 
 -- ---- each member
@@ -166,22 +165,25 @@ length-each step n (x ∷ xs) ys e =
 
 -- ---- conditions
 
-condition_holds : (place : Place) (c : Condition) (ms : Members) (o : Option (List ℕ)) → condition_at place c ms ≡ Ok o
-    → IfSome o (λ t. IsTrue (allows c t))
-unfolding condition_at
-condition_holds place c ms o e = at (get_member (key_of c) ms) e
-  where
-    name : List ℕ
-    name = field_name place (key_of c)
+kept_is : (test : List ℕ → Bool) (s t : List ℕ) → kept_if test s ≡ Some t → IsTrue (test t)
+kept_is test s t e =
+    elim (cond_is (test s) (Some s) None (Some t) e) [
+      | inl holds ↦ let same : s ≡ t = let some = holds.1 in cc in subst (λ x. IsTrue (test x)) same holds.0
+      | inr other ↦ absurd (let none = other.1 in cc)
+    ]
 
-    at : (d : Option Data) → optional name c d ≡ Ok o → IfSome o (λ t. IsTrue (allows c t))
-    at None e = subst (λ p. IfSome p (λ t. IsTrue (allows c t))) (ok_is e) tt
-    at (Some d) e =
-        let s = bind_is (text name d) _ o e in
-        let t = bind_is (word name (allows c) s.0) _ o s.2 in
-        let test = test_is (allows c s.0) s.0 t.0 _ t.1 in
-        let holds : IsTrue (allows c t.0) = ap (allows c) (sym test.1) ∙ test.0 in
-        subst (λ p. IfSome p (λ t. IsTrue (allows c t))) (ok_is t.2) holds
+condition_holds : (test : List ℕ → Bool) (place : Place) (key : List ℕ) (ms : Members) (o : Option (List ℕ))
+    → condition_at test place key ms ≡ Ok o → IfSome o (λ t. IsTrue (test t))
+unfolding condition_at text_at
+condition_holds test place key ms o e =
+    elim (cond_is (is_some (get_member key ms)) (text_at (kept_if test) place key ms >>= λ s. Ok (Some s)) (Ok None) (Ok o) e) [
+      | inl there ↦
+          let text = bind_is (text_at (kept_if test) place key ms) _ o there.1 in
+          let s = bind_is (field_at as_str place key ms) _ text.0 text.1 in
+          let kept = kept_is test s.0 text.0 (or_is (kept_if test s.0) _ text.0 s.2) in
+          subst (λ p. IfSome p (λ t. IsTrue (test t))) (ok_is text.2) kept
+      | inr absent ↦ subst (λ p. IfSome p (λ t. IsTrue (test t))) (ok_is absent.1) tt
+    ]
 
 -- the conditions of a written rule have their forms
 pub record HasForms (w : Written) : Type 0 where
@@ -192,15 +194,15 @@ pub record HasForms (w : Written) : Type 0 where
 pub rule_has_forms : (n : ℕ) (ms : Members) (w : Written) → rule_of n ms ≡ Ok w → HasForms w
 unfolding rule_of
 rule_has_forms n ms w e =
-    let to = bind_is (to_at (Rule n) ms) _ w e in
+    let to = bind_is (array_at (λ d. option_and_then (kept_if is_server_name) (as_str d)) 1 256 (Rule n) (codes "to") ms) _ w e in
     let weights = bind_is (weights_at (Rule n) (length to.0) ms) _ w to.2 in
-    let host = bind_is (condition_at (Rule n) Host ms) _ w weights.2 in
-    let path = bind_is (condition_at (Rule n) Path ms) _ w host.2 in
-    let cookie = bind_is (condition_at (Rule n) Cookie ms) _ w path.2 in
+    let host = bind_is (condition_at is_host (Rule n) (codes "host") ms) _ w weights.2 in
+    let path = bind_is (condition_at is_path (Rule n) (codes "path") ms) _ w host.2 in
+    let cookie = bind_is (condition_at is_cookie (Rule n) (codes "cookie") ms) _ w path.2 in
     subst HasForms (ok_is cookie.2) (record {
-      host = condition_holds (Rule n) Host ms host.0 host.1;
-      path = condition_holds (Rule n) Path ms path.0 path.1;
-      cookie = condition_holds (Rule n) Cookie ms cookie.0 cookie.1;
+      host = condition_holds is_host (Rule n) (codes "host") ms host.0 host.1;
+      path = condition_holds is_path (Rule n) (codes "path") ms path.0 path.1;
+      cookie = condition_holds is_cookie (Rule n) (codes "cookie") ms cookie.0 cookie.1;
     })
 
 -- ---- checks that passed
@@ -208,13 +210,6 @@ rule_has_forms n ms w e =
 pub unless_any_is : {A : Type 0} (fault : A → RuleFault) (o : Option A) → unless_any fault o ≡ Ok tt → o ≡ None
 unless_any_is fault None e = refl
 unless_any_is fault (Some a) e = absurd cc
-
-pub all_pass_all : {A : Type 0} (check : A → Result (Unit {0}) RuleFault) (xs : List A) → all_pass check xs ≡ Ok tt
-    → All (λ x. check x ≡ Ok tt) xs
-all_pass_all check [] e = All-nil (λ x. check x ≡ Ok tt)
-all_pass_all check (x ∷ xs) e =
-    let first = bind_is (check x) _ tt e in
-    All-cons (λ x. check x ≡ Ok tt) x xs first.1 (all_pass_all check xs first.2)
 
 pub every_all : {A : Type 0} (P : A → Type 0) (check : ℕ → A → Result (Unit {0}) RuleFault)
     → ((n : ℕ) (x : A) → check n x ≡ Ok tt → P x) → (n : ℕ) (xs : List A) → every check n xs ≡ Ok tt → All P xs

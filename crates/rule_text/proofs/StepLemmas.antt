@@ -1,7 +1,7 @@
 -- Steps one after another.
 use Rattle.std.proofs.Common.{◌≡◌, ℕ, ◌+◌, ◌<◌, Bor, length, drop, get_or, List, [], ◌∷◌, ◌++◌, map, refl, sym, ap, ◌∙◌, append_assoc, ◌⊎◌, inl, inr, Result, Ok, Err}
 use Rattle.std.specs.List.{zip}
-use Rattle.rule_text.specs.Document.{choices_of, place_among}
+use Rattle.rule_text.specs.Document.{place_among}
 use Rattle.std.proofs.lemmas.List.{append-nil, drop_more, map-append}
 use Rattle.rule_text.specs.declared.fault.RuleFault.{RuleFault}
 use Rattle.rule_text.specs.Steps.{◌>>=◌, answered, each}
@@ -22,6 +22,10 @@ each_more {A} {B} {X} step view all done made value n x xs rest so_far first ans
         ≡ answered (λ more. map view (done ++ value ∷ []) ++ more) r
     moved (Ok ys) = ap Ok (simp (map-append, append_assoc))
     moved (Err fault) = refl
+
+-- the servers that a rule names, by their places, with their weights
+abbrev pub choices_of : List (List ℕ) → List (List ℕ) → List ℕ → List (ℕ × ℕ)
+choices_of names to weights = zip (map (place_among names) to) weights
 
 -- one more pair is made, and one name and one weight fewer are left
 pub choices_more : (names : List (List ℕ)) (to : List (Bor (List ℕ))) (weights : List ℕ) (d : Bor (List ℕ)) (n w place : ℕ)

@@ -1,5 +1,5 @@
--- What is looked for once every field has its form, in this order: fields that a table may not have, servers that come
--- twice, names that no server has, names that come twice in one rule, and rules whose weights sum to 0.
+-- What is looked for once every field has its form: fields that a table may not have, servers that come twice, names that no
+-- server has, names that come twice in one rule, and rules whose weights sum to 0.
 use Rattle.std.specs.Prelude.{ℕ, ◌+◌, Bool, ◌&&◌, ◌||◌, ◌==◌, not, List, [], ◌∷◌, ◌++◌, find, Option, Some, None, Result, Ok, Err, if◌then◌else◌, codes}
 use Rattle.std.specs.List.{list_any}
 use Rattle.std.specs.Str.{bytes_eq}
@@ -27,12 +27,13 @@ every check n (x ∷ xs) = do
   passed ← check n x
   every check (n + 1) xs
 
--- the same where the place does not matter
-abbrev pub all_pass : {A : Type 0} → (A → Result (Unit {0}) RuleFault) → List A → Result (Unit {0}) RuleFault
-all_pass check [] = Ok tt
-all_pass check (x ∷ xs) = do
-  passed ← check x
-  all_pass check xs
+-- the first member that clashes with those before it
+abbrev pub first_clash : {A : Type 0} → (List A → A → Bool) → List A → List A → Option A
+first_clash clashes earlier [] = None
+first_clash clashes earlier (x ∷ xs) = if clashes earlier x then Some x else first_clash clashes (earlier ++ x ∷ []) xs
+
+abbrev pub is_among : List (List ℕ) → List ℕ → Bool
+is_among names name = list_any (λ n. bytes_eq n name) names
 
 -- ---- fields
 
@@ -45,20 +46,14 @@ known_keys Service = codes "number" ∷ codes "address" ∷ codes "port" ∷ []
 known_keys (Server n) = codes "name" ∷ codes "address" ∷ codes "port" ∷ []
 known_keys (Rule n) = codes "to" ∷ codes "weights" ∷ codes "host" ∷ codes "path" ∷ codes "cookie" ∷ []
 
-abbrev pub is_among : List (List ℕ) → List ℕ → Bool
-is_among names name = list_any (λ n. bytes_eq n name) names
-
 -- the keys of a table, in byte order
 abbrev pub keys_of : Members → List (List ℕ)
 keys_of no_members = []
 keys_of (member k d ms) = k ∷ keys_of ms
 
--- the first key, in byte order, that the table may not have
-abbrev pub first_extra : List (List ℕ) → List (List ℕ) → Option (List ℕ)
-first_extra known keys = find (λ k. not (is_among known k)) keys
-
+-- no field that the table may not have: the first in byte order is told
 unfoldable pub no_extra : Place → Members → Result (Unit {0}) RuleFault
-no_extra place ms = unless_any (λ k. Extra (field_name place k)) (first_extra (known_keys place) (keys_of ms))
+no_extra place ms = unless_any (λ k. Extra (field_name place k)) (find (λ k. not (is_among (known_keys place) k)) (keys_of ms))
 
 -- ---- servers
 
@@ -68,31 +63,18 @@ clashes service earlier s =
     list_any (λ t. bytes_eq t.0 s.0 || (t.1.address == s.1.address && t.1.port == s.1.port)) earlier
     || s.1.address == service.address
 
--- the name of the first server that may not come after those before it
-abbrev pub first_clash : ServiceType → List Named → List Named → Option (List ℕ)
-first_clash service earlier [] = None
-first_clash service earlier (s ∷ servers) =
-    if clashes service earlier s then Some s.0 else first_clash service (earlier ++ s ∷ []) servers
-
 unfoldable pub apart : ServiceType → List Named → Result (Unit {0}) RuleFault
-apart service servers = unless_any Twice (first_clash service [] servers)
+apart service servers = unless_any (λ s. Twice s.0) (first_clash (clashes service) [] servers)
 
 -- ---- rules
 
--- the first name that no server has
-abbrev pub first_unknown : List (List ℕ) → List (List ℕ) → Option (List ℕ)
-first_unknown servers names = find (λ n. not (is_among servers n)) names
-
+-- each name is that of a server
 abbrev pub known : List (List ℕ) → Written → Result (Unit {0}) RuleFault
-known servers rule = unless_any UnknownServer (first_unknown servers rule.to)
+known servers rule = unless_any UnknownServer (find (λ n. not (is_among servers n)) rule.to)
 
--- the first name that stands among those before it
-abbrev pub first_again : List (List ℕ) → List (List ℕ) → Option (List ℕ)
-first_again earlier [] = None
-first_again earlier (n ∷ names) = if is_among earlier n then Some n else first_again (earlier ++ n ∷ []) names
-
+-- no name stands among those before it
 abbrev pub once : Written → Result (Unit {0}) RuleFault
-once rule = unless_any Twice (first_again [] rule.to)
+once rule = unless_any Twice (first_clash is_among [] rule.to)
 
 -- the weights of the rule do not sum to 0
 abbrev pub weighs : ℕ → RuleType → Result (Unit {0}) RuleFault

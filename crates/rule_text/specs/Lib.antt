@@ -1,4 +1,5 @@
 pub mod Checks
+pub mod Conditions
 pub mod Document
 pub mod Forms
 pub mod Laws

@@ -1,7 +1,9 @@
 ghost use Rattle.std.specs.Prelude.{◌≡◌, ◌≤◌, IfOk, length, map, option_map, vec_len};
-ghost use Rattle.rule_text.specs.Document.{choices_of as choices_in, place_among, resolved as resolved_rule};
-ghost use Rattle.rule_text.specs.WrittenViews.{named, written};
+ghost use Rattle.std.specs.List.{zip};
+ghost use Rattle.rule_text.specs.Document.{place_among, resolved as resolved_rule, resolved_rules as resolved_in};
+ghost use Rattle.rule_text.specs.WrittenViews.{AreFew, AreNames, fields_view, named, written};
 
+use crate::document::Fields;
 use crate::written::{NamedServer, WrittenRule};
 use rule_table::{Choices, Rule, Server, Text};
 use std::alloc::{AllocError, Global};
@@ -29,17 +31,19 @@ pub fn ends_of(alloc: Global, servers: &[NamedServer]) -> Result<Vec<Server>, Al
 }
 
 /// The rules, with their servers by their places.
+#[tactic(auto, unfolding(crate::specs::WrittenViews::fields_view))]
 pub fn resolved_rules(
     alloc: Global,
     names: &[&str],
-    rules: &[WrittenRule],
+    fields: &Fields,
 ) -> Result<Vec<Rule>, AllocError>
-    requires { length names.now ≤ 256 }
-    ensures rules { IfOk result (λ v. v.items ≡ map (resolved_rule (map (λ n. n.now) names.now)) (map written rules.now)) }
-    ensures count { IfOk result (λ v. vec_len v ≡ length rules.now) }
+    requires few { AreFew fields.now }
+    requires names { AreNames fields.now names.now }
+    ensures rules { IfOk result (λ v. v.items ≡ resolved_in (fields_view fields.now)) }
+    ensures count { IfOk result (λ v. vec_len v ≤ 256) }
 {
-    let mut resolved = Vec::with_capacity(alloc, rules.len())?;
-    for rule in rules {
+    let mut resolved = Vec::with_capacity(alloc, fields.rules.len())?;
+    for rule in &fields.rules {
         resolved.push(resolved_of(alloc, names, rule)?)?;
     }
     Ok(resolved)
@@ -78,7 +82,7 @@ fn choices_of(
     weights: &[u16],
 ) -> Result<Choices, AllocError>
     requires { length names.now ≤ 256 }
-    ensures { IfOk result (λ c. c ≡ choices_in (map (λ n. n.now) names.now) (map (λ s. s.now) to.now) weights.now) }
+    ensures { IfOk result (λ c. c ≡ zip (map (place_among (map (λ n. n.now) names.now)) (map (λ s. s.now) to.now)) weights.now) }
 {
     let mut pairs = Vec::with_capacity(alloc, to.len())?;
     for (n, name) in to.iter().enumerate() {

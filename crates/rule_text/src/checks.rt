@@ -1,11 +1,13 @@
-ghost use Rattle.std.specs.Prelude.{◌≡◌, ◌==◌, ◌≤◌, [], length, not, map, option_map};
+ghost use Rattle.std.specs.Prelude.{◌≡◌, ◌==◌, ◌≤◌, [], find, length, not, map, option_map};
 ghost use Rattle.std.specs.Option.{option_copied};
 ghost use Rattle.toml.specs.View.{table_view};
 ghost use Rattle.weighted_pick.specs.Pick.{total_weight};
-ghost use Rattle.rule_text.specs.Checks.{all_pass, apart as apart_of, clashes as clashes_with, every, first_again as first_again_in, first_clash as first_clash_in, first_extra as first_extra_in, first_unknown as first_unknown_in, is_among as is_among_names, keys_of, known as known_rule, known_keys as known_keys_of, no_extra as no_extra_in, once as once_in, weighs as weighs_rule};
+ghost use Rattle.rule_text.specs.Checks.{apart as apart_of, clashes as clashes_with, every, first_clash as first_clash_in, is_among as is_among_names, keys_of, known as known_rule, known_keys as known_keys_of, no_extra as no_extra_in, once as once_in, weighs as weighs_rule};
 ghost use Rattle.rule_text.specs.Steps.{Gives};
-ghost use Rattle.rule_text.specs.WrittenViews.{named, written};
+ghost use Rattle.rule_text.specs.Document.{names_of};
+ghost use Rattle.rule_text.specs.WrittenViews.{AreNames, fields_view, named, written};
 
+use crate::document::Fields;
 use crate::fault::{Field, Place, RuleFault, extra, twice, unknown_server};
 use crate::written::{NamedServer, WrittenRule};
 use rule_table::{Rule, Service};
@@ -46,7 +48,7 @@ fn known_keys(place: Place) -> &'static [&'static str]
 
 /// The first key of the table, in byte order, that is not known.
 fn first_extra<'a>(known: &[&str], table: &'a Table) -> Option<&'a str>
-    ensures { option_copied result ≡ first_extra_in (map (λ k. k.now) known.now) (keys_of (table_view table.now)) }
+    ensures { option_copied result ≡ find (λ k. not (is_among_names (map (λ n. n.now) known.now) k)) (keys_of (table_view table.now)) }
 {
     for key in table.keys() {
         if !is_among(known, key.as_str()) {
@@ -96,18 +98,18 @@ pub fn apart(alloc: Global, service: Service, servers: &[NamedServer]) -> Result
     ensures { Gives (λ u. u) result (apart_of service (map named servers.now)) }
 {
     match first_clash(service, servers) {
-        Some(name) => Err(twice(alloc, name)),
+        Some(server) => Err(twice(alloc, server.name)),
         None => Ok(()),
     }
 }
 
-/// The name of the first server that may not come after those before it.
-fn first_clash<'a>(service: Service, servers: &[NamedServer<'a>]) -> Option<&'a str>
-    ensures { option_copied result ≡ first_clash_in service [] (map named servers.now) }
+/// The first server that may not come after those before it.
+fn first_clash<'a>(service: Service, servers: &[NamedServer<'a>]) -> Option<NamedServer<'a>>
+    ensures { option_map named result ≡ first_clash_in (clashes_with service) [] (map named servers.now) }
 {
     for (n, server) in servers.iter().enumerate() {
         if clashes(service, &servers[..n], server) {
-            return Some(server.name);
+            return Some(*server);
         }
     }
     None
@@ -126,11 +128,14 @@ fn clashes(service: Service, earlier: &[NamedServer], server: &NamedServer) -> b
 }
 
 /// That each name of the rules is a server's.
-pub fn all_known(alloc: Global, servers: &[&str], rules: &[WrittenRule]) -> Result<(), RuleFault>
-    ensures { Gives (λ u. u) result (all_pass (known_rule (map (λ s. s.now) servers.now)) (map written rules.now)) }
+#[tactic(auto, unfolding(crate::specs::WrittenViews::fields_view))]
+pub fn all_known(alloc: Global, names: &[&str], fields: &Fields) -> Result<(), RuleFault>
+    requires { AreNames fields.now names.now }
+    ensures { Gives (λ u. u) result
+        (every (λ n. known_rule (names_of (fields_view fields.now).servers)) 0 (fields_view fields.now).rules) }
 {
-    for rule in rules {
-        known(alloc, servers, rule)?;
+    for rule in &fields.rules {
+        known(alloc, names, rule)?;
     }
     Ok(())
 }
@@ -148,7 +153,7 @@ fn known(alloc: Global, servers: &[&str], rule: &WrittenRule) -> Result<(), Rule
 
 /// The first name that no server has.
 fn first_unknown<'a>(servers: &[&str], names: &[&'a str]) -> Option<&'a str>
-    ensures { option_copied result ≡ first_unknown_in (map (λ s. s.now) servers.now) (map (λ n. n.now) names.now) }
+    ensures { option_copied result ≡ find (λ n. not (is_among_names (map (λ s. s.now) servers.now) n)) (map (λ n. n.now) names.now) }
 {
     for name in names {
         if !is_among(servers, name) {
@@ -160,7 +165,7 @@ fn first_unknown<'a>(servers: &[&str], names: &[&'a str]) -> Option<&'a str>
 
 /// That each rule names a server once.
 pub fn all_once(alloc: Global, rules: &[WrittenRule]) -> Result<(), RuleFault>
-    ensures { Gives (λ u. u) result (all_pass once_in (map written rules.now)) }
+    ensures { Gives (λ u. u) result (every (λ n. once_in) 0 (map written rules.now)) }
 {
     for rule in rules {
         once(alloc, rule)?;
@@ -181,7 +186,7 @@ fn once(alloc: Global, rule: &WrittenRule) -> Result<(), RuleFault>
 
 /// The first name that stands among those before it.
 fn first_again<'a>(names: &[&'a str]) -> Option<&'a str>
-    ensures { option_copied result ≡ first_again_in [] (map (λ n. n.now) names.now) }
+    ensures { option_copied result ≡ first_clash_in is_among_names [] (map (λ n. n.now) names.now) }
 {
     for (n, name) in names.iter().enumerate() {
         if is_among(&names[..n], name) {

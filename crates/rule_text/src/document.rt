@@ -1,9 +1,8 @@
 ghost use Rattle.std.specs.Prelude.{IfOk};
 ghost use Rattle.toml.specs.View.{table_view};
-ghost use Rattle.rule_text.specs.Document.{agree as agree_in, document_setup as document_setup_in, fields_of as fields_in, no_extras as no_extras_in, rules_in, setup_of_fields};
-ghost use Rattle.rule_text.specs.Laws.{MakesSetup};
+ghost use Rattle.rule_text.specs.Document.{document_setup as document_setup_in, fields_of as fields_in, rules_in};
 ghost use Rattle.rule_text.specs.Steps.{Gives};
-ghost use Rattle.rule_text.specs.WrittenViews.{AreFew, AreNames, fields_view};
+ghost use Rattle.rule_text.specs.WrittenViews.{AreFew, fields_view};
 
 use crate::build::{ends_of, names_of, resolved_rules};
 use crate::checks::{
@@ -35,15 +34,23 @@ pub fn rules_of(alloc: Global, text: &[u8]) -> Result<Setup, RuleFault>
 }
 
 /// What a document says.
-#[tactic(auto, unfolding(crate::specs::Document::document_setup))]
+#[tactic(auto, unfolding(crate::specs::Document::document_setup, crate::specs::WrittenViews::fields_view))]
 fn document_setup(alloc: Global, document: &Table) -> Result<Setup, RuleFault>
     ensures { Gives (λ s. s) result (document_setup_in (table_view document.now)) }
 {
     let fields = fields_of(alloc, document)?;
-    no_extras(alloc, document, &fields)?;
+    no_extra(alloc, Place::Top, document)?;
+    no_extra(alloc, Place::Service, fields.service_table)?;
+    no_server_extra(alloc, &fields.server_tables)?;
+    no_rule_extra(alloc, &fields.rule_tables)?;
+    apart(alloc, fields.service, &fields.servers)?;
     let names = names_of(alloc, &fields.servers)?;
-    agree(alloc, &names, &fields)?;
-    setup_of(alloc, &names, &fields)
+    all_known(alloc, &names, &fields)?;
+    all_once(alloc, &fields.rules)?;
+    let rules = resolved_rules(alloc, &names, &fields)?;
+    all_weigh(&rules)?;
+    let servers = ends_of(alloc, &fields.servers)?;
+    Ok(Setup::make(fields.sizes, fields.service, servers, rules))
 }
 
 /// All that a rules file writes.
@@ -80,41 +87,4 @@ fn fields_of(alloc: Global, document: &Table) -> Result<Fields<'_>, RuleFault>
         rule_tables,
         rules,
     })
-}
-
-/// That no table has a field that it may not have.
-#[tactic(auto, unfolding(crate::specs::Document::no_extras, crate::specs::WrittenViews::fields_view))]
-fn no_extras(alloc: Global, document: &Table, fields: &Fields) -> Result<(), RuleFault>
-    requires { AreFew fields.now }
-    ensures { Gives (λ u. u) result (no_extras_in (table_view document.now) (fields_view fields.now)) }
-{
-    no_extra(alloc, Place::Top, document)?;
-    no_extra(alloc, Place::Service, fields.service_table)?;
-    no_server_extra(alloc, &fields.server_tables)?;
-    no_rule_extra(alloc, &fields.rule_tables)
-}
-
-/// That the servers differ, and that the rules name them, each at most once.
-#[tactic(auto, unfolding(crate::specs::Document::agree, crate::specs::WrittenViews::fields_view))]
-fn agree(alloc: Global, names: &[&str], fields: &Fields) -> Result<(), RuleFault>
-    requires { AreNames fields.now names.now }
-    ensures { Gives (λ u. u) result (agree_in (fields_view fields.now)) }
-{
-    apart(alloc, fields.service, &fields.servers)?;
-    all_known(alloc, names, &fields.rules)?;
-    all_once(alloc, &fields.rules)
-}
-
-/// The setup of these fields, unless the weights of a rule sum to 0.
-#[tactic(auto, unfolding(crate::specs::Document::setup_of_fields, crate::specs::WrittenViews::fields_view))]
-fn setup_of(alloc: Global, names: &[&str], fields: &Fields) -> Result<Setup, RuleFault>
-    requires few { AreFew fields.now }
-    requires names { AreNames fields.now names.now }
-    requires whole { MakesSetup (fields_view fields.now) }
-    ensures { Gives (λ s. s) result (setup_of_fields (fields_view fields.now)) }
-{
-    let rules = resolved_rules(alloc, names, &fields.rules)?;
-    all_weigh(&rules)?;
-    let servers = ends_of(alloc, &fields.servers)?;
-    Ok(Setup::make(fields.sizes, fields.service, servers, rules))
 }

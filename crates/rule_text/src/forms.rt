@@ -30,7 +30,7 @@ pub enum Condition {
 }
 
 impl Condition {
-    ghost use Rattle.rule_text.specs.Written.{allows as allows_text, key_of};
+    ghost use Rattle.rule_text.specs.Conditions.{allows as allows_text, key_of};
 
     /// The field that has it.
     pub fn key(self) -> &'static str

@@ -1,9 +1,11 @@
 ghost use Rattle.std.specs.Prelude.{◌≡◌, ◌≤◌, ◌&&◌, IfOk, IsTrue, nat_le, vec_len, length, map, option_map};
-ghost use Rattle.toml.specs.Data.{get_member};
+ghost use Rattle.std.specs.Option.{ok_or};
+ghost use Rattle.toml.specs.Data.{as_array, as_integer, as_str, as_table, get_member};
 ghost use Rattle.toml.specs.View.{table_view, view};
 ghost use Rattle.rule_text.specs.Names.{field_name};
 ghost use Rattle.rule_text.specs.Steps.{Gives};
-ghost use Rattle.rule_text.specs.Values.{array_at as array_in, array_of as array_of_data, items, members, table_at as table_in, text as text_in, text_at as text_of_field, value_at as value_in, whole as whole_number, whole_at as whole_number_at};
+ghost use Rattle.rule_text.specs.declared.fault.RuleFault.TheVariants.{Missing};
+ghost use Rattle.rule_text.specs.Values.{field_at, list_of, list_within, or_form, whole_at as whole_number_at, whole_within as within_limits};
 
 use crate::fault::{Field, RuleFault, form, missing, range};
 use std::alloc::Global;
@@ -19,7 +21,8 @@ pub fn member<'a>(table: &'a Table, key: &str) -> Option<&'a Value>
 
 /// The value of a field that has to be there.
 pub fn value_at<'a>(alloc: Global, table: &'a Table, field: Field) -> Result<&'a Value, RuleFault>
-    ensures { Gives (λ v. view v.now) result (value_in field.entry.place field.entry.key.now (table_view table.now)) }
+    ensures { Gives (λ v. view v.now) result
+        (ok_or (get_member field.entry.key.now (table_view table.now)) (Missing (field_name field.entry.place field.entry.key.now))) }
 {
     match member(table, field.key) {
         Some(value) => Ok(value),
@@ -41,18 +44,31 @@ pub fn whole_at(
     ensures within { IfOk result (λ n. (low ≤ n) × (n ≤ high)) }
 {
     let value = value_at(alloc, table, field)?;
-    whole(alloc, field, value, low, high)
+    let number = integer(alloc, field, value)?;
+    whole_within(alloc, field, number, low, high)
 }
 
 /// The whole number that the value of a field is.
-fn whole(alloc: Global, field: Field, value: &Value, low: u16, high: u16) -> Result<u16, RuleFault>
-    ensures answer { Gives (λ n. n) result
-        (whole_number (field_name field.entry.place field.entry.key.now) low high (view value.now)) }
+fn integer(alloc: Global, field: Field, value: &Value) -> Result<i64, RuleFault>
+    ensures { Gives (λ z. z) result (or_form field.entry.place field.entry.key.now (as_integer (view value.now))) }
+{
+    match value.as_integer() {
+        Some(number) => Ok(number),
+        None => Err(form(alloc, field)),
+    }
+}
+
+/// The number, where it is not outside the limits.
+pub fn whole_within(
+    alloc: Global,
+    field: Field,
+    number: i64,
+    low: u16,
+    high: u16,
+) -> Result<u16, RuleFault>
+    ensures answer { Gives (λ n. n) result (within_limits (field_name field.entry.place field.entry.key.now) low high number) }
     ensures within { IfOk result (λ n. (low ≤ n) × (n ≤ high)) }
 {
-    let Some(number) = value.as_integer() else {
-        return Err(form(alloc, field));
-    };
     if number < low as i64 || number > high as i64 {
         return Err(range(alloc, field, number));
     }
@@ -60,9 +76,8 @@ fn whole(alloc: Global, field: Field, value: &Value, low: u16, high: u16) -> Res
 }
 
 /// The text of a field.
-#[tactic(auto, unfolding(crate::specs::Values::text_at))]
 pub fn text_at<'a>(alloc: Global, table: &'a Table, field: Field) -> Result<&'a str, RuleFault>
-    ensures { Gives (λ s. s.now) result (text_of_field field.entry.place field.entry.key.now (table_view table.now)) }
+    ensures { Gives (λ s. s.now) result (field_at as_str field.entry.place field.entry.key.now (table_view table.now)) }
 {
     let value = value_at(alloc, table, field)?;
     text(alloc, field, value)
@@ -70,7 +85,7 @@ pub fn text_at<'a>(alloc: Global, table: &'a Table, field: Field) -> Result<&'a 
 
 /// The text that the value of a field is.
 pub fn text<'a>(alloc: Global, field: Field, value: &'a Value) -> Result<&'a str, RuleFault>
-    ensures { Gives (λ s. s.now) result (text_in (field_name field.entry.place field.entry.key.now) (view value.now)) }
+    ensures { Gives (λ s. s.now) result (or_form field.entry.place field.entry.key.now (as_str (view value.now))) }
 {
     match value.as_str() {
         Some(text) => Ok(text),
@@ -79,9 +94,8 @@ pub fn text<'a>(alloc: Global, field: Field, value: &'a Value) -> Result<&'a str
 }
 
 /// The table of a field.
-#[tactic(auto, unfolding(crate::specs::Values::table_at))]
 pub fn table_at<'a>(alloc: Global, table: &'a Table, field: Field) -> Result<&'a Table, RuleFault>
-    ensures { Gives (λ t. table_view t.now) result (table_in field.entry.place field.entry.key.now (table_view table.now)) }
+    ensures { Gives (λ t. table_view t.now) result (field_at as_table field.entry.place field.entry.key.now (table_view table.now)) }
 {
     let value = value_at(alloc, table, field)?;
     members_of(alloc, field, value)
@@ -89,7 +103,7 @@ pub fn table_at<'a>(alloc: Global, table: &'a Table, field: Field) -> Result<&'a
 
 /// The table that the value of a field is.
 fn members_of<'a>(alloc: Global, field: Field, value: &'a Value) -> Result<&'a Table, RuleFault>
-    ensures { Gives (λ t. table_view t.now) result (members (field_name field.entry.place field.entry.key.now) (view value.now)) }
+    ensures { Gives (λ t. table_view t.now) result (or_form field.entry.place field.entry.key.now (as_table (view value.now))) }
 {
     match value.as_table() {
         Some(table) => Ok(table),
@@ -98,7 +112,6 @@ fn members_of<'a>(alloc: Global, field: Field, value: &'a Value) -> Result<&'a T
 }
 
 /// The array of a field, with a number of members between the limits.
-#[tactic(auto, unfolding(crate::specs::Values::array_at))]
 pub fn array_at<'a>(
     alloc: Global,
     table: &'a Table,
@@ -107,7 +120,7 @@ pub fn array_at<'a>(
     high: usize,
 ) -> Result<&'a Array, RuleFault>
     ensures answer { Gives (λ a. map view a.now.items) result
-        (array_in field.entry.place field.entry.key.now low high (table_view table.now)) }
+        (field_at (list_within low high) field.entry.place field.entry.key.now (table_view table.now)) }
     ensures few { IfOk result (λ a. vec_len a.now ≤ high) }
 {
     let value = value_at(alloc, table, field)?;
@@ -123,7 +136,7 @@ fn items_of<'a>(
     high: usize,
 ) -> Result<&'a Array, RuleFault>
     ensures answer { Gives (λ a. map view a.now.items) result
-        (items (field_name field.entry.place field.entry.key.now) low high (view value.now)) }
+        (or_form field.entry.place field.entry.key.now (list_within low high (view value.now))) }
     ensures few { IfOk result (λ a. vec_len a.now ≤ high) }
 {
     let Some(array) = array_of(value) else {
@@ -138,7 +151,7 @@ fn items_of<'a>(
 
 /// The array that the value is, if it is one.
 fn array_of(value: &Value) -> Option<&Array>
-    ensures { option_map (λ a. map view a.now.items) result ≡ array_of_data (view value.now) }
+    ensures { option_map (λ a. map view a.now.items) result ≡ option_map list_of (as_array (view value.now)) }
 {
     value.as_array()
 }

@@ -1,9 +1,14 @@
-ghost use Rattle.std.specs.Prelude.{◌≡◌, ◌≤◌, IfOk, length, map, option_map, vec_len};
+ghost use Rattle.std.specs.Prelude.{◌≡◌, ◌≤◌, IfOk, codes, length, map, option_map, vec_len};
 ghost use Rattle.toml.specs.View.{table_view};
+ghost use Rattle.std.specs.Option.{option_and_then};
+ghost use Rattle.toml.specs.Data.{as_integer, as_str, as_table};
 ghost use Rattle.rule_table.specs.Setups.{is_shard_count as is_shard_number};
 ghost use Rattle.rule_text.specs.declared.fault.Place.TheVariants.{Top};
+ghost use Rattle.rule_text.specs.Conditions.{allows, key_of};
+ghost use Rattle.rule_text.specs.Forms.{address_of as address_in, is_server_name as is_name, kept_if, secret_of as secret_in};
 ghost use Rattle.rule_text.specs.Steps.{Gives, each};
-ghost use Rattle.rule_text.specs.Written.{address_at as address_in, condition_at as condition_in, name_at as name_in, port_at as port_in, rule_of as rule_in, secret_at as secret_in, server_of as server_in, service_of as service_in, shards_of as shards_in, sizes_of as sizes_in, tables_at as tables_in, to_at as to_in, weights_at as weights_in};
+ghost use Rattle.rule_text.specs.Values.{array_at as array_in, text_at as text_in, whole_at as whole_in};
+ghost use Rattle.rule_text.specs.Written.{condition_at as condition_in, rule_of as rule_in, server_of as server_in, service_of as service_in, shards_of as shards_in, sizes_of as sizes_in, weights_at as weights_in};
 ghost use Rattle.rule_text.specs.WrittenViews.{named, written};
 
 use crate::fault::{Field, Place, RuleFault, form, range};
@@ -65,9 +70,9 @@ fn is_shard_count(number: u16) -> bool
 }
 
 /// The secret of 64 hex digits.
-#[tactic(auto, unfolding(crate::specs::Written::secret_at))]
+#[tactic(auto, unfolding(crate::specs::Values::text_at))]
 fn secret_at(alloc: Global, document: &Table) -> Result<[u8; 32], RuleFault>
-    ensures { Gives (λ s. s) result (secret_in (table_view document.now)) }
+    ensures { Gives (λ s. s) result (text_in secret_in Top (codes "secret") (table_view document.now)) }
 {
     let text = text_at(alloc, document, top("secret"))?;
     match secret_of(text) {
@@ -96,9 +101,9 @@ pub fn service_of(alloc: Global, table: &Table) -> Result<Service, RuleFault>
 }
 
 /// The IPv4 address of a table.
-#[tactic(auto, unfolding(crate::specs::Written::address_at))]
+#[tactic(auto, unfolding(crate::specs::Values::text_at))]
 fn address_at(alloc: Global, table: &Table, place: Place) -> Result<u32, RuleFault>
-    ensures { Gives (λ n. n) result (address_in place (table_view table.now)) }
+    ensures { Gives (λ n. n) result (text_in address_in place (codes "address") (table_view table.now)) }
 {
     let field = Field {
         place,
@@ -113,7 +118,7 @@ fn address_at(alloc: Global, table: &Table, place: Place) -> Result<u32, RuleFau
 
 /// The TCP port of a table.
 fn port_at(alloc: Global, table: &Table, place: Place) -> Result<u16, RuleFault>
-    ensures { Gives (λ n. n) result (port_in place (table_view table.now)) }
+    ensures { Gives (λ n. n) result (whole_in place (codes "port") 1 65535 (table_view table.now)) }
 {
     whole_at(alloc, table, Field { place, key: "port" }, 1, 65535)
 }
@@ -140,9 +145,9 @@ pub fn server_of(alloc: Global, n: u16, table: &Table) -> Result<NamedServer<'_>
 }
 
 /// The name of a server's table.
-#[tactic(auto, unfolding(crate::specs::Written::name_at))]
+#[tactic(auto, unfolding(crate::specs::Values::text_at))]
 fn name_at(alloc: Global, table: &Table, place: Place) -> Result<&str, RuleFault>
-    ensures { Gives (λ s. s.now) result (name_in place (table_view table.now)) }
+    ensures { Gives (λ s. s.now) result (text_in (kept_if is_name) place (codes "name") (table_view table.now)) }
 {
     let field = Field { place, key: "name" };
     let name = text_at(alloc, table, field)?;
@@ -184,9 +189,10 @@ pub fn rule_of(alloc: Global, n: u16, table: &Table) -> Result<WrittenRule<'_>, 
 }
 
 /// The names of the servers that a rule names.
-#[tactic(auto, unfolding(crate::specs::Written::to_at))]
+#[tactic(auto, unfolding(crate::specs::Values::array_at))]
 fn to_at(alloc: Global, table: &Table, place: Place) -> Result<Vec<&str>, RuleFault>
-    ensures { Gives (λ v. map (λ s. s.now) v.items) result (to_in place (table_view table.now)) }
+    ensures { Gives (λ v. map (λ s. s.now) v.items) result
+        (array_in (λ d. option_and_then (kept_if is_name) (as_str d)) 1 256 place (codes "to") (table_view table.now)) }
 {
     let field = Field { place, key: "to" };
     let array = array_at(alloc, table, field, 1, 256)?;
@@ -194,7 +200,7 @@ fn to_at(alloc: Global, table: &Table, place: Place) -> Result<Vec<&str>, RuleFa
 }
 
 /// The weights of a rule, as many as its servers.
-#[tactic(auto, unfolding(crate::specs::Written::weights_at))]
+#[tactic(auto, unfolding(crate::specs::Written::weights_at, crate::specs::Values::array_at))]
 fn weights_at(
     alloc: Global,
     table: &Table,
@@ -213,14 +219,15 @@ fn weights_at(
 }
 
 /// The condition of a rule, if it is there.
-#[tactic(auto, unfolding(crate::specs::Written::condition_at))]
+#[tactic(auto, unfolding(crate::specs::Written::condition_at, crate::specs::Values::text_at))]
 fn condition_at(
     alloc: Global,
     table: &Table,
     place: Place,
     condition: Condition,
 ) -> Result<Option<&str>, RuleFault>
-    ensures { Gives (option_map (λ s. s.now)) result (condition_in place condition (table_view table.now)) }
+    ensures { Gives (option_map (λ s. s.now)) result
+        (condition_in (allows condition) place (key_of condition) (table_view table.now)) }
 {
     let field = Field {
         place,
@@ -238,13 +245,14 @@ fn condition_at(
 }
 
 /// The tables of an array, from 1 to 256.
-#[tactic(auto, unfolding(crate::specs::Written::tables_at))]
+#[tactic(auto, unfolding(crate::specs::Values::array_at))]
 pub fn tables_at<'a>(
     alloc: Global,
     document: &'a Table,
     key: &str,
 ) -> Result<Vec<&'a Table>, RuleFault>
-    ensures answer { Gives (λ v. map (λ t. table_view t.now) v.items) result (tables_in key.now (table_view document.now)) }
+    ensures answer { Gives (λ v. map (λ t. table_view t.now) v.items) result
+        (array_in as_table 1 256 Top key.now (table_view document.now)) }
     ensures few { IfOk result (λ v. vec_len v ≤ 256) }
 {
     let array = array_at(alloc, document, top(key), 1, 256)?;

@@ -1,9 +1,11 @@
 use Rattle.std.proofs.Common.{◌≡◌, drop, map}
-use Rattle.rule_text.specs.Checks.{all_pass, known}
-use Rattle.rule_text.specs.WrittenViews.{written}
+use Rattle.rule_text.specs.Checks.{every, known}
+use Rattle.rule_text.specs.Document.{names_of}
+use Rattle.rule_text.specs.WrittenViews.{named, written}
 use Rattle.rule_text.proofs.checks.all_known.Given as goal
 
 abbrev pub invariant-loop-rule : goal.invariant-loop-rule
 invariant-loop-rule l =
-    all_pass (known (map (λ s. s.now) l.servers)) (map written l.rules)
-    ≡ all_pass (known (map (λ s. s.now) l.servers)) (map written (drop l.rule-index l.rules))
+    let check = known (names_of (map named l.fields.servers.items)) in
+    every (λ n. check) 0 (map written l.fields.rules.items)
+    ≡ every (λ n. check) l.rule-index (map written (drop l.rule-index l.fields.rules.items))

@@ -1,8 +1,8 @@
-use Rattle.std.proofs.Common.{◌≡◌, drop, map}
-use Rattle.rule_text.specs.Checks.{first_unknown}
+use Rattle.std.proofs.Common.{◌≡◌, drop, find, map, not}
+use Rattle.rule_text.specs.Checks.{is_among}
 use Rattle.rule_text.proofs.checks.first_unknown.Given as goal
 
 abbrev pub invariant-loop-name : goal.invariant-loop-name
 invariant-loop-name l =
-    first_unknown (map (λ s. s.now) l.servers) (map (λ n. n.now) l.names)
-    ≡ first_unknown (map (λ s. s.now) l.servers) (map (λ n. n.now) (drop l.name-index l.names))
+    find (λ n. not (is_among (map (λ s. s.now) l.servers) n)) (map (λ n. n.now) l.names)
+    ≡ find (λ n. not (is_among (map (λ s. s.now) l.servers) n)) (map (λ n. n.now) (drop l.name-index l.names))
