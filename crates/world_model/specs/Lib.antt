@@ -1,6 +1,7 @@
 pub mod Acks
 pub mod After
 pub mod Clients
+pub mod DrivenSetup
 pub mod Enabled
 pub mod Events
 pub mod FirstFlow
@@ -17,10 +18,12 @@ pub mod Records
 pub mod Routes
 pub mod Runs
 pub mod Safety
+pub mod Schedule
 pub mod Sending
 pub mod Shape
 pub mod Slots
 pub mod Steps
 pub mod Streams
+pub mod Summaries
 pub mod World
 pub mod WrongWorlds

@@ -50,6 +50,13 @@ impl ServerEnds {
         *self.ends.allocator()
     }
 
+    /// The ends, in the order in which they were made.
+    pub(crate) fn as_slice(&self) -> &[ServerEnd]
+        ensures { result.now ≡ self.now }
+    {
+        self.ends.as_slice()
+    }
+
     /// The place of the end of a server towards this port, where it was made.
     pub(crate) fn place_of(&self, server: u16, port: u16) -> Option<usize>
         ensures found { IfSome result (λ i. slice_get self.now i ≡ find (is_end server port) self.now) }

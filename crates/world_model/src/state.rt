@@ -18,6 +18,7 @@ use crate::failing::fail_all;
 use crate::posted::{Posted, Sender};
 use crate::posting::{next_sent, nowhere, refusal_of};
 use crate::route::{client_in, route_of};
+use crate::server_end::ServerEnd;
 use crate::server_ends::ServerEnds;
 use crate::serving::{entry, step_in, take_in};
 use crate::shard::Shard;
@@ -25,7 +26,7 @@ use crate::swapping::{swap_client, swap_named};
 use crate::world::{end_of_client, end_of_server};
 use rule_table::Setup;
 use seq_space::Num;
-use std::alloc::AllocError;
+use std::alloc::{AllocError, Global};
 use std::marker::Model;
 use tcp_end::End;
 use tcp_segment::{Bytes, Segment};
@@ -300,6 +301,25 @@ impl State {
             At::Client(client) => end_of_client(self.ends.as_slice(), *client),
             At::Server { server, port } => end_of_server(&self.servers, *server, *port),
         }
+    }
+
+    /// Where its memory comes from.
+    pub(crate) fn allocator(&self) -> Global {
+        *self.sent.allocator()
+    }
+
+    /// The balancer's setup.
+    pub(crate) fn setup(&self) -> &Setup
+        ensures { result.now ≡ self.now.setup }
+    {
+        &self.setup
+    }
+
+    /// The ends of the servers, in the order in which they were made.
+    pub(crate) fn servers(&self) -> &[ServerEnd]
+        ensures { result.now ≡ self.now.servers }
+    {
+        self.servers.as_slice()
     }
 
     /// The number of segments that were ever sent.

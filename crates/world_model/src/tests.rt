@@ -1,13 +1,20 @@
+// Worlds of one shop, and what happens in them.
 ghost use Rattle.std.specs.Prelude.{◌≡◌, ◌∷◌, [], true};
 ghost use Rattle.world_model.specs.Clients.{AreClients};
 
-use crate::enabled::is_within;
 use crate::{At, ClientSpec, Event, Happened, World};
 use rule_table::{Choices, Rule, Server, Service, Setup, Sizes, Text};
 use seq_space::Num;
 use std::alloc::{AllocError, Global};
 use std::test::Fail;
 use tcp_segment::{ACK, Bytes, FIN, Head, Options, PSH, RST, SYN, Segment};
+
+mod barred;
+mod connections;
+mod crashes;
+mod generated;
+mod memory;
+mod strangers;
 
 const CLIENT: ClientSpec = ClientSpec {
     address: 0xc000_0207,
@@ -55,6 +62,12 @@ const THERE: At = At::Server {
     port: PORT,
 };
 
+/// The server's end towards the next port by which the client's flow asks it.
+const BESIDE: At = At::Server {
+    server: 0,
+    port: PORT + 4,
+};
+
 /// An end that is not there.
 const NOWHERE: At = At::Server {
     server: 1,
@@ -84,15 +97,27 @@ fn is_client(setup: &Setup) -> bool
         && setup.server_at(CLIENT.address, CLIENT.port).is_none()
 }
 
-/// A world with one client.
-fn world(alloc: Global) -> Result<World, Fail> {
+/// A world with one client, if it may be one.
+fn shop_world(alloc: Global) -> Result<Option<World>, AllocError> {
     let setup = shop(alloc)?;
     if !is_client(&setup) {
-        return Err("the client is the service, or a server".into());
+        return Ok(None);
     }
     let mut clients = Vec::new(alloc);
     clients.push(CLIENT)?;
-    Ok(World::new(alloc, setup, clients)?)
+    Ok(Some(World::new(alloc, setup, clients)?))
+}
+
+/// A world with one client, made once more where memory was refused.
+fn world(alloc: Global) -> Result<World, Fail> {
+    let made = match shop_world(alloc) {
+        Ok(made) => made,
+        Err(AllocError) => shop_world(alloc)?,
+    };
+    match made {
+        Some(world) => Ok(world),
+        None => Err("the client is the service, or a server".into()),
+    }
 }
 
 /// What is to happen, as a value that can be copied: what is written is empty, and the first server is the one that refuses.
@@ -159,6 +184,16 @@ fn event_of(alloc: Global, act: Act) -> Event {
     }
 }
 
+/// Makes the event, once more where memory was refused: then the world has to be as before.
+fn made(world: &mut World, event: &Event) -> Result<Happened, Fail> {
+    let sent = world.sent();
+    match world.step(event) {
+        Ok(happened) => Ok(happened),
+        Err(AllocError) if world.sent() == sent => Ok(world.step(event)?),
+        Err(AllocError) => Err("a refused allocation has changed the world".into()),
+    }
+}
+
 /// Makes each of these events, and fails at the first that is not answered so.
 fn all_answer(
     alloc: Global,
@@ -167,7 +202,7 @@ fn all_answer(
     acts: &[Act],
 ) -> Result<(), Fail> {
     for act in acts {
-        if world.step(&event_of(alloc, *act))? != answer {
+        if made(world, &event_of(alloc, *act))? != answer {
             return Err("an event is answered otherwise".into());
         }
     }
@@ -182,7 +217,7 @@ fn happen(alloc: Global, world: &mut World, acts: &[Act]) -> Result<(), Fail> {
 /// The end writes these bytes.
 fn write(alloc: Global, world: &mut World, at: At, data: &[u8]) -> Result<(), Fail> {
     let bytes = Bytes::new(Vec::from_slice(alloc, data)?);
-    match world.step(&Event::Write(at, bytes))? {
+    match made(world, &Event::Write(at, bytes))? {
         Happened::Done => Ok(()),
         Happened::NotEnabled => Err("the end cannot write".into()),
     }
@@ -250,138 +285,19 @@ fn answered(alloc: Global, world: &mut World) -> Result<(), Fail> {
     happen(alloc, world, &[Act::Deliver(HERE, 8)])
 }
 
-#[test]
-fn a_request_and_its_answer_arrive(rt: HostRuntime) -> Result<(), Fail> {
-    let mut world = world(rt.alloc())?;
-    accepted(rt.alloc(), &mut world)?;
-    // The last is taken twice, and changes no end the second time.
-    let taken = [
-        Act::Deliver(THERE, 5),
-        Act::Deliver(THERE, 6),
-        Act::Deliver(THERE, 6),
-    ];
-    happen(rt.alloc(), &mut world, &taken)?;
-    assert!(rt; world.sent() == 7);
-    assert!(rt; brief(&world, 3) == (SYN, 1000, 0, 0));
-    assert!(rt; brief(&world, 4) == (SYN + ACK, 70000, 1001, 0));
-    assert!(rt; brief(&world, 5) == (ACK, 1001, 70001, 0));
-    assert!(rt; brief(&world, 6) == (PSH + ACK, 1001, 70001, 69));
-    assert!(rt; has_received(&world, &THERE, HEAD) && has_received(&world, &HERE, b""));
-    answered(rt.alloc(), &mut world)?;
-    assert!(rt; world.sent() == 9 && has_received(&world, &HERE, &ANSWER));
-    Ok(())
-}
-
-/// The other instance takes a request that came long ago, loses the server's answer in a crash, and takes it again, while
-/// two replicas fail: segments 7 to 9.
-fn taken_over(alloc: Global, world: &mut World) -> Result<(), Fail> {
-    handle(alloc, world, 0, 2, 20)?;
-    write(alloc, world, THERE, b"yes")?;
-    let lost = [
-        Act::Deliver(THERE, 7),
-        Act::Close(THERE),
-        Act::Send(THERE, 2),
-        Act::Take(0, 8),
-        Act::Crash(0),
-        Act::Fail(0),
-        Act::Fail(2),
-    ];
-    happen(alloc, world, &lost)?;
-    handle(alloc, world, 0, 8, 20)?;
-    happen(alloc, world, &[Act::Deliver(HERE, 9)])
-}
-
-#[test]
-fn segments_are_taken_twice_and_late(rt: HostRuntime) -> Result<(), Fail> {
-    let mut world = world(rt.alloc())?;
-    accepted(rt.alloc(), &mut world)?;
-    // The data before the acknowledgment that was sent first, the data again, and the SYN once more.
-    let late = [
-        Act::Deliver(THERE, 6),
-        Act::Deliver(THERE, 5),
-        Act::Deliver(THERE, 6),
-        Act::Deliver(THERE, 3),
-    ];
-    happen(rt.alloc(), &mut world, &late)?;
-    assert!(rt; has_received(&world, &THERE, HEAD));
-    taken_over(rt.alloc(), &mut world)?;
-    assert!(rt; brief(&world, 7) == (ACK, 1001, 70001, 69));
-    assert!(rt; has_received(&world, &THERE, HEAD) && has_received(&world, &HERE, b"ye"));
-    assert!(rt; world.sent() == 10);
-    Ok(())
-}
-
-#[test]
-fn a_refused_client_is_reset(rt: HostRuntime) -> Result<(), Fail> {
-    let mut world = world(rt.alloc())?;
-    asked(rt.alloc(), &mut world)?;
-    happen(rt.alloc(), &mut world, &[Act::Refuse(3)])?;
-    assert!(rt; brief(&world, 4) == (RST + ACK, 0, 1001, 0));
-    handle(rt.alloc(), &mut world, 1, 4, 20)?;
-    happen(rt.alloc(), &mut world, &[Act::Deliver(HERE, 5)])?;
-    match world.end(&HERE) {
-        Some(end) => assert!(rt; end.dead()),
-        None => return Err("there is no client".into()),
+/// The end sends. The instance that takes it crashes after so many steps, the other instance takes it again, and each end
+/// takes what has been sent to it since.
+fn pass_on(alloc: Global, world: &mut World, from: At, steps: u8) -> Result<(), Fail> {
+    let index = world.sent();
+    happen(alloc, world, &[Act::Send(from, 1460)])?;
+    let first = world.sent();
+    handle(alloc, world, 1, index, steps)?;
+    happen(alloc, world, &[Act::Crash(1)])?;
+    handle(alloc, world, 0, index, 30)?;
+    for sent in first..world.sent() {
+        for at in [HERE, THERE, BESIDE] {
+            made(world, &event_of(alloc, Act::Deliver(at, sent)))?;
+        }
     }
     Ok(())
-}
-
-// Each of the cases in which an event is not enabled, but for a position out of reach, which takes too long a stream.
-#[test]
-fn what_may_not_be_is_not_enabled(rt: HostRuntime) -> Result<(), Fail> {
-    let mut world = world(rt.alloc())?;
-    accepted(rt.alloc(), &mut world)?;
-    let made = [
-        Act::Stray(9, 9, 81, SYN),
-        Act::Stray(9, 9, 80, SYN + FIN),
-        Act::Close(HERE),
-        Act::Abort(THERE),
-    ];
-    happen(rt.alloc(), &mut world, &made)?;
-    let barred = [
-        // A client, an end, an instance, a replica, a shard or a segment is not there.
-        Act::Open(1),
-        Act::Close(At::Client(1)),
-        Act::Send(NOWHERE, 9),
-        Act::Abort(NOWHERE),
-        Act::Take(2, 0),
-        Act::Step(2, 0),
-        Act::Step(0, 4),
-        Act::Crash(2),
-        Act::Fail(3),
-        Act::Take(0, 10),
-        Act::Deliver(HERE, 10),
-        Act::Refuse(10),
-        // The segment goes to somebody else.
-        Act::Deliver(HERE, 6),
-        Act::Deliver(THERE, 1),
-        Act::Deliver(HERE, 0),
-        Act::Take(0, 1),
-        // It is not aimed at the balancer, or has flags that no connection has.
-        Act::Take(0, 7),
-        Act::Take(0, 8),
-        // The client has opened.
-        Act::Open(0),
-        // The stranger is the client, or a server.
-        Act::Stray(CLIENT.address, CLIENT.port, 80, ACK),
-        Act::Stray(SERVER.address, 8080, 80, ACK),
-        // What is refused is no SYN, or its end is there.
-        Act::Refuse(5),
-        Act::Refuse(3),
-        // The end is closed that writes, or dead that writes, sends or aborts.
-        Act::Write(HERE),
-        Act::Write(THERE),
-        Act::Send(THERE, 9),
-        Act::Abort(THERE),
-    ];
-    all_answer(rt.alloc(), &mut world, Happened::NotEnabled, &barred)?;
-    assert!(rt; world.sent() == 10);
-    Ok(())
-}
-
-#[test]
-fn a_position_is_within_reach_below_two_to_the_31(rt: HostRuntime) {
-    assert!(rt; is_within(0, Some(0x7fff_ffff)) && !is_within(0, Some(0x8000_0000)));
-    assert!(rt; is_within(0x8000_0000, Some(1)) && !is_within(0x8000_0000, Some(0)));
-    assert!(rt; is_within(0, None));
 }

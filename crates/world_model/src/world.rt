@@ -15,6 +15,7 @@ use crate::client::ClientSpec;
 use crate::client_list::ClientList;
 use crate::event::{Event, Happened};
 use crate::laws::{steps_are_events, streams_agree};
+use crate::server_end::ServerEnd;
 use crate::server_ends::ServerEnds;
 use crate::shard::Shard;
 use crate::state::State;
@@ -128,6 +129,25 @@ impl World {
         }
         self.state.make(event)?;
         Ok(Happened::Done)
+    }
+
+    /// Where its memory comes from.
+    pub(crate) fn allocator(&self) -> Global {
+        self.state.allocator()
+    }
+
+    /// The balancer's setup.
+    pub(crate) fn setup(&self) -> &Setup
+        ensures { result.now ≡ self.now.setup }
+    {
+        self.state.setup()
+    }
+
+    /// The ends of the servers, in the order in which they were made.
+    pub(crate) fn servers(&self) -> &[ServerEnd]
+        ensures { result.now ≡ self.now.servers }
+    {
+        self.state.servers()
     }
 
     /// The end there, None exactly where it has not opened or was not made.
