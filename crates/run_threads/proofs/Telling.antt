@@ -33,6 +33,7 @@ use Rattle.run_threads.specs.Run.{told_by, IsThreadRun}
 use Rattle.run_threads.specs.Work.{AreItems}
 use Rattle.run_threads.specs.declared.outcome.Outcome.{Outcome}
 use Rattle.run_threads.proofs.Determined.{IsMade, run_made}
+use Rattle.run_threads.proofs.Owners.{owner_there}
 use Rattle.run_threads.proofs.ShortReplies.{IsShortCall, answers_short, opening_short}
 use Rattle.run_threads.proofs.Whole.{some_shards}
 
@@ -103,13 +104,6 @@ module _ (inputs : Inputs) (sized : IsSetup inputs.setup) (law : AssignedIsLivin
   shard_there item (Ok s) = aimed_there item s (aimed inputs.setup s.source s.target s.head)
   shard_there item (Err verdict) = some
 
-  whose_there : (item : ℕ) (p : Prepared) → IsAimedWork inputs.setup p → owner_by inputs.setup item (instance_of p) < inputs.setup.instances
-  whose_there item (Ended v) is = mod-lt item (let one = sized.instances.0 in omega (arith, one))
-  whose_there item (Work a segment i own) is = is.0
-
-  owner_there : (n : ℕ) (frame : Frame) → owner inputs n frame < inputs.setup.instances
-  owner_there n frame = whose_there n (prepared_of inputs n frame) (aimed_work law inputs.setup inputs.script.lines n (incoming inputs.trace frame))
-
   -- ---- all records
   -- its owner tells it, on the record's shard
   abbrev pub IsToldOf : ℕ → Frame → Outcome → Type 0
@@ -127,7 +121,7 @@ module _ (inputs : Inputs) (sized : IsSetup inputs.setup) (law : AssignedIsLivin
   first_told n frame frames o outcomes all =
       let w = owner inputs n frame in
       let g = shard_for (prepared_of inputs n frame) in
-      subst (λ t. IsToldIf inputs w g n frame (if t then Some o else None)) (eq-eqb w w refl) (all w g (owner_there n frame) (shard_there n (incoming inputs.trace frame))).0
+      subst (λ t. IsToldIf inputs w g n frame (if t then Some o else None)) (eq-eqb w w refl) (all w g (owner_there law inputs sized n frame) (shard_there n (incoming inputs.trace frame))).0
 
   each_told : (n : ℕ) (frames : List Frame) (outcomes : List Outcome) → length outcomes ≡ length frames → AllTell n frames outcomes → EachTold n frames outcomes
   each_told n [] [] same all = tt

@@ -5,6 +5,7 @@ pub mod Handling
 pub mod Items
 pub mod Laws
 pub mod Outs
+pub mod Owners
 pub mod Pool
 pub mod Run
 pub mod Seats

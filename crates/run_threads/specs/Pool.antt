@@ -18,6 +18,7 @@ use Rattle.bench.specs.Histories.{opening}
 use Rattle.bench.specs.declared.input.inputs.Inputs.{Inputs}
 use Rattle.pcap_file.specs.declared.capture.Frame.{Frame}
 use Rattle.rule_table.specs.Setups.{SetupView}
+use Rattle.run_threads.specs.Owners.{AreOwners}
 use Rattle.run_threads.specs.Seats.{BenchLock, BenchSeat, IsAt, answers}
 use Rattle.run_threads.specs.Work.{AreItems, numbered}
 use Rattle.run_threads.specs.declared.outcome.Outcome.{Outcome}
@@ -87,13 +88,14 @@ pub record AreBacks (inputs : Inputs) (frames : List Frame) (locks : List BenchL
   pub each : (worker : ℕ) (b : Back) → worker < inputs.setup.instances → IsBackOf inputs worker frames locks (slice_index_or backs worker b)
 
 -- what a worker wants
-pub record MayServe (inputs : Inputs) (frames : List Frame) (due : Due) (locks : List BenchLock) (crew : Crew) : Type 0 where
+pub record MayServe (inputs : Inputs) (frames : List Frame) (owners : List ℕ) (due : Due) (locks : List BenchLock) (crew : Crew) : Type 0 where
   pub inputs_are : IsInputs inputs
   pub locks_are : AreLocks inputs.setup inputs.setup.shards locks
   pub worker_is : crew.worker < inputs.setup.instances
   pub seats_are : AreFresh (crew.worker + 1) 0 inputs.setup.shards locks crew.seats.items
   pub inside : All (λ (f : Frame). f.at + f.kept ≤ length inputs.trace) frames
   pub few : length frames < 2 ^ 32
+  pub owners_are : AreOwners inputs frames owners
   pub due_are : (item : ℕ) → item < length frames → due_at due item ≡ filter (is_due item) inputs.script.lines
 
 -- a seat with number 0, which has made one for each instance, and into which those of the workers from this one on were

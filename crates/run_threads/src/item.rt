@@ -7,14 +7,13 @@ ghost use Rattle.bench.specs.declared.input.prepared.Prepared.TheVariants.{Work}
 ghost use Rattle.run_threads.specs.Crews.{IsCrew, CrewDoes, CrewMakes};
 ghost use Rattle.run_threads.specs.Handling.{refused_by, end_of};
 ghost use Rattle.bench.specs.Blocks.{crash_of, crash_after};
-ghost use Rattle.run_threads.specs.Items.{IsHandledAt, IsTurn, IsPassed, IsDone, IsItem, failing, fails_of, fails_before};
+ghost use Rattle.run_threads.specs.Items.{IsHandledAt, IsTurn, IsPassed, IsDone, IsItem, failing, fails_of, fails_before, owner};
 
 use crate::crew::{crash_all, fail_all};
 use crate::gate::Gate;
 use crate::handling::{Refused, handle, in_time, most_steps};
 use crate::object::BenchObject;
 use crate::outcome::{Outcome, ended, outcome_of};
-use crate::owner::owner;
 use bench::Reply;
 use bench::input::{Inputs, Prepared, prepare};
 use job_core::{Aim, Verdict};
@@ -196,7 +195,7 @@ fn pass<R: Wait>(
     Ok(told)
 }
 
-/// What a worker does at a record: its segment is handled where the record is the worker's, and the worker's instance crashes
+/// What a worker does at a record of this worker: its segment is handled where it is the same one, and the instance crashes
 /// where the script has it so.
 fn do_own<G: Gate, R: Wait>(
     rt: &R,
@@ -208,18 +207,20 @@ fn do_own<G: Gate, R: Wait>(
     item: u32,
     lines: &[ScriptLine],
     frame: &Frame,
+    whose: u16,
     gate: &G,
 ) -> Result<Option<Outcome>, AllocError>
     requires inputs { IsInputs inputs.now }
     requires worker { worker < inputs.now.setup.instances }
     requires crew { IsCrew inputs.now.setup locks.now seats.old }
     requires inside { frame.now.at + frame.now.kept ≤ length inputs.now.trace }
+    requires whose { whose ≡ owner inputs.now item frame.now }
     ensures crew { IsCrew inputs.now.setup locks.now seats.new }
     ensures done { IfOk result (λ o. CrewDoes locks.now seats.old seats.new (IsDone inputs.now worker item lines.now frame.now o)) }
 {
     let setup = &inputs.setup;
     let after = crash_after(lines, worker, item);
-    if owner(inputs, item, frame) != worker {
+    if whose != worker {
         return pass(rt, setup, locks, seats, worker, after, None);
     }
     match prepare(alloc, inputs, item, frame) {
@@ -275,17 +276,19 @@ pub(crate) fn do_item<G: Gate, R: Wait>(
     item: u32,
     lines: &[ScriptLine],
     frame: &Frame,
+    whose: u16,
     gate: &G,
 ) -> Result<Option<Outcome>, AllocError>
     requires inputs { IsInputs inputs.now }
     requires worker { worker < inputs.now.setup.instances }
     requires crew { IsCrew inputs.now.setup locks.now seats.old }
     requires inside { frame.now.at + frame.now.kept ≤ length inputs.now.trace }
+    requires whose { whose ≡ owner inputs.now item frame.now }
     ensures crew { IsCrew inputs.now.setup locks.now seats.new }
     ensures done { IfOk result (λ o. CrewDoes locks.now seats.old seats.new (IsItem inputs.now worker item lines.now frame.now o)) }
 {
     fail_before(rt, &inputs.setup, locks, seats, worker, item, lines)?;
     do_own(
-        rt, alloc, inputs, locks, seats, worker, item, lines, frame, gate,
+        rt, alloc, inputs, locks, seats, worker, item, lines, frame, whose, gate,
     )
 }

@@ -1,11 +1,12 @@
 //! What the workers tell, put into one list for all records.
 ghost use Rattle.std.specs.Prelude.{◌≡◌, ◌≢◌, ◌<◌, ◌≤◌, ◌+◌, ◌*◌, ◌++◌, ◌^◌, ℕ, All, length, map, reverse, slice_index_or, IfOk, OnOk, IsSome, ◌↔◌, option_to_list};
 ghost use Rattle.bench.specs.Inputs.{IsInputs};
+ghost use Rattle.run_threads.specs.Owners.{AreOwners};
 ghost use Rattle.run_threads.specs.Run.{AreTales, AreMerged, IsMerged, outs_of};
 ghost use Rattle.run_threads.specs.declared.run.Told.{Told as ToldOf};
 
 use crate::outcome::Outcome;
-use crate::owner::owner;
+use crate::owner::owner_at;
 use crate::run::Told;
 use bench::input::{Inputs, Lines, Result1, Sent};
 use pcap_file::Frame;
@@ -29,11 +30,12 @@ fn gather(
     alloc: Global,
     inputs: &Inputs,
     frames: &[Frame],
+    owners: &[u16],
     told: &mut [Told],
 ) -> Result<Vec<Outcome>, AllocError>
     requires inputs { IsInputs inputs.now }
-    requires frames { All (λ f. f.at + f.kept ≤ length inputs.now.trace) frames.now }
     requires few { length frames.now < 2 ^ 32 }
+    requires owners { AreOwners inputs.now frames.now owners.now }
     requires told { AreTales inputs.now frames.now told.old }
     ensures merged { IfOk result (λ r. AreMerged inputs.now frames.now told.old (reverse r.items)) }
     ensures count { IfOk result (λ r. length r.items ≡ length frames.now) }
@@ -42,7 +44,7 @@ fn gather(
     let mut left = frames.len();
     while left > 0 {
         left -= 1;
-        let who = owner(inputs, left as u32, &frames[left]);
+        let who = owner_at(inputs, frames, owners, left);
         let place = told.len() - 1 - who as usize;
         let (_, outcome) = last_told(told, place).unwrap();
         outcomes.push(outcome)?;
@@ -71,7 +73,7 @@ fn lay_out(alloc: Global, mut outcomes: Vec<Outcome>) -> Result<Result1, AllocEr
     ensures few { IfOk result (λ r. length r.outs ≤ 11 * length outcomes.items) }
 {
     let mut lines = Vec::with_capacity(alloc, outcomes.len())?;
-    let mut sent = Vec::new(alloc);
+    let mut sent = Vec::with_capacity(alloc, outcomes.len())?;
     let mut item = 0;
     while let Some(outcome) = outcomes.pop() {
         let Outcome { line, outs } = outcome;
@@ -90,15 +92,16 @@ pub(crate) fn merge(
     alloc: Global,
     inputs: &Inputs,
     frames: &[Frame],
+    owners: &[u16],
     mut told: Vec<Told>,
 ) -> Result<Result1, AllocError>
     requires inputs { IsInputs inputs.now }
-    requires frames { All (λ f. f.at + f.kept ≤ length inputs.now.trace) frames.now }
     requires few { length frames.now < 2 ^ 32 }
+    requires owners { AreOwners inputs.now frames.now owners.now }
     requires told { AreTales inputs.now frames.now told.items }
     ensures merged { IfOk result (λ r. IsMerged inputs.now frames.now told.items r.lines r.outs) }
     ensures few { IfOk result (λ r. length r.outs ≤ 11 * length frames.now) }
 {
-    let outcomes = gather(alloc, inputs, frames, &mut told)?;
+    let outcomes = gather(alloc, inputs, frames, owners, &mut told)?;
     lay_out(alloc, outcomes)
 }

@@ -3,6 +3,7 @@ ghost use Rattle.std.specs.Prelude.{◌≡◌, ◌≤◌, ◌<◌, ◌+◌, ◌*
 ghost use Rattle.std.specs.List.{AllByRecursion, filter};
 ghost use Rattle.run_threads.specs.Due.{due_at, is_due};
 ghost use Rattle.run_threads.specs.Outs.{IsSent};
+ghost use Rattle.run_threads.specs.Owners.{AreOwners};
 ghost use Rattle.run_threads.specs.Run.{AreDone, IsThreadRun};
 ghost use Rattle.run_threads.specs.Pool.{AreSeats, JoinsFrom, AreJoined, AllIn, AreHistories, AreLocks, AreFresh, AreCrews, AreBacks, IsBackOf, MayServe, IsSplit};
 ghost use Rattle.pcap_file.specs.Frames.{capture_of, left_of};
@@ -14,6 +15,7 @@ use crate::gate::Gate;
 use crate::merge::merge;
 use crate::object::{BenchObject, BoxedBench};
 use crate::outcome::Outcome;
+use crate::owner::owners;
 use crate::worker::work;
 use bench::input::{Inputs, Result1};
 use bench::{Bench, Call};
@@ -134,11 +136,13 @@ fn crews_of(
     Ok(crews)
 }
 
+/// Lets a crew do its worker's items, and gives it back with what the worker tells.
 fn serve<G: Gate, R: Wait>(
     rt: &R,
     alloc: Global,
     inputs: &Inputs,
     frames: &[Frame],
+    owners: &[u16],
     due: &Due,
     locks: &[SeenLock<BenchObject>],
     crew: Crew,
@@ -150,12 +154,13 @@ fn serve<G: Gate, R: Wait>(
     requires seats { AreFresh (crew.worker + 1) 0 inputs.now.setup.shards locks.now crew.seats.items }
     requires frames { All (λ f. f.at + f.kept ≤ length inputs.now.trace) frames.now }
     requires few { length frames.now < 2 ^ 32 }
+    requires owners { AreOwners inputs.now frames.now owners.now }
     requires due { (item : ℕ) → item < length frames.now → due_at due.now item ≡ filter (is_due item) inputs.now.script.lines }
     ensures { IsBackOf inputs.now crew.worker frames.now locks.now result }
 {
     let Crew { worker, mut seats } = crew;
     match work(
-        rt, alloc, inputs, frames, due, locks, &mut seats, worker, gate,
+        rt, alloc, inputs, frames, owners, due, locks, &mut seats, worker, gate,
     ) {
         Ok(told) => Back {
             seats,
@@ -174,6 +179,7 @@ fn run_workers<G: Gate + Sync, R: Threads + Wait + Sync>(
     alloc: Global,
     inputs: &Inputs,
     frames: &[Frame],
+    owners: &[u16],
     due: &Due,
     locks: &[SeenLock<BenchObject>],
     crews: Vec<Crew>,
@@ -184,6 +190,7 @@ fn run_workers<G: Gate + Sync, R: Threads + Wait + Sync>(
     requires crews { AreCrews inputs.now.setup.shards inputs.now.setup.instances locks.now crews.items }
     requires frames { All (λ f. f.at + f.kept ≤ length inputs.now.trace) frames.now }
     requires few { length frames.now < 2 ^ 32 }
+    requires owners { AreOwners inputs.now frames.now owners.now }
     requires due { (item : ℕ) → item < length frames.now → due_at due.now item ≡ filter (is_due item) inputs.now.script.lines }
     ensures { IfOk result (λ backs. AreBacks inputs.now frames.now locks.now backs.items) }
 {
@@ -191,9 +198,9 @@ fn run_workers<G: Gate + Sync, R: Threads + Wait + Sync>(
         rt,
         crews,
         &|crew: Crew| -> Back
-            requires { IsSync R.row × IsSync G.row × MayServe inputs.now frames.now due.now locks.now crew }
+            requires { IsSync R.row × IsSync G.row × MayServe inputs.now frames.now owners.now due.now locks.now crew }
             ensures { IsBackOf inputs.entry.now crew.worker frames.entry.now locks.entry.now result }
-        { serve(rt, alloc, inputs, frames, due, locks, crew, gate) },
+        { serve(rt, alloc, inputs, frames, owners, due, locks, crew, gate) },
     )
 }
 
@@ -272,18 +279,22 @@ fn run_locked<G: Gate + Sync, R: Threads + Wait + Sync>(
     alloc: Global,
     inputs: &Inputs,
     frames: &[Frame],
+    owners: &[u16],
     gate: &G,
 ) -> Result<(Vec<Told>, Vec<Vec<Entry<Call>>>), AllocError>
     requires inputs { IsInputs inputs.now }
     requires frames { frames.now ≡ (capture_of inputs.now.trace).frames }
     requires inside { All (λ f. f.at + f.kept ≤ length inputs.now.trace) frames.now }
+    requires owners { AreOwners inputs.now frames.now owners.now }
     ensures { IfOk result (λ r. AreDone inputs.now r.0.items (map (λ h. h.items) r.1.items)) }
 {
     inputs.setup.known();
     let due = Due::of(alloc, inputs.script.lines(), inputs.records)?;
     let (locks, mut first) = open_locks(alloc, &inputs.setup)?;
     let crews = crews_of(alloc, &inputs.setup, &locks, &mut first)?;
-    let backs = run_workers(rt, alloc, inputs, frames, &due, &locks, crews, gate)?;
+    let backs = run_workers(
+        rt, alloc, inputs, frames, owners, &due, &locks, crews, gate,
+    )?;
     let told = take_in(alloc, inputs, frames, &locks, &mut first, backs)?;
     let histories = close_all(alloc, &inputs.setup, locks, first)?;
     Ok((told, histories))
@@ -311,8 +322,9 @@ pub fn run_all<G: Gate + Sync, R: Threads + Wait + Sync>(
     assignments();
     inputs.setup.known();
     let frames = frames_of(alloc, inputs)?;
-    let (told, histories) = run_locked(rt, alloc, inputs, &frames, gate)?;
-    let merged = merge(alloc, inputs, &frames, told)?;
+    let owners = owners(rt, alloc, inputs, &frames)?;
+    let (told, histories) = run_locked(rt, alloc, inputs, &frames, &owners, gate)?;
+    let merged = merge(alloc, inputs, &frames, &owners, told)?;
     Ok(RunResult {
         result: merged,
         histories,

@@ -1,6 +1,7 @@
-use Rattle.std.proofs.Common.{◌≡◌, ◌+◌, ◌-◌, [], ◌∷◌, List, length, reverse, ap, sym, subst, ◌∙◌, refl, arith}
+use Rattle.std.proofs.Common.{◌≡◌, ◌+◌, ◌-◌, ◌<◌, [], ◌∷◌, List, length, reverse, ap, sym, subst, ◌∙◌, refl, arith}
 use Rattle.std.proofs.lemmas.List.{length-append}
 use Rattle.run_threads.specs.declared.outcome.Outcome.{Outcome}
+use Rattle.run_threads.proofs.Done.{element}
 use Rattle.run_threads.proofs.Merging.{IsLeft, none_left, all_merged, some_told, put_next}
 use Rattle.run_threads.proofs.merge.gather.Goals as goal
 
@@ -21,11 +22,12 @@ unwrap-outcome-requires c =
     let inv = c.loop-left.invariant in
     let n = c.loop-left.left - 1 in
     let t = c.loop-left-test.true in
-    let few = c.requires.few in
     let count = inv.count in
-    some_told inputs frames c.args.told.now c.loop-left.told n c.loop-left.left _ c.owner-who.result _ (reverse c.loop-left.outcomes.items) _ c.last_told.result
-    (omega (arith, t)) (omega (arith, t, count)) c.owner-who.ensures.which (omega (arith, t, count, few)) c.owner-who.ensures.there (ap (λ k. k - 1 - c.owner-who.result) inv.left.many) inv.left
-    c.requires.told c.last_told.ensures.variant
+    let who = c.owner_at-who.result in
+    let within : n < length frames = omega (arith, t, count) in
+    let f = element frames n within in
+    some_told inputs frames c.args.told.now c.loop-left.told n c.loop-left.left n who _ (reverse c.loop-left.outcomes.items) f c.last_told.result
+    (omega (arith, t)) within (c.owner_at-who.ensures.which f) refl c.owner_at-who.ensures.there (ap (λ k. k - 1 - who) inv.left.many) inv.left c.requires.told c.last_told.ensures.variant
 
 pub loop-left-preserved : goal.loop-left-preserved
 loop-left-preserved c =
@@ -34,16 +36,18 @@ loop-left-preserved c =
     let inv = c.loop-left.invariant in
     let n = c.loop-left.left - 1 in
     let t = c.loop-left-test.true in
-    let few = c.requires.few in
     let count = inv.count in
+    let who = c.owner_at-who.result in
+    let within : n < length frames = omega (arith, t, count) in
+    let f = element frames n within in
     let items : List Outcome = c.loop-left.outcomes.items in
     let items' : List Outcome = c.push.new.self.items in
     let e = c.unwrap-outcome.result in
     let pushed = c.in_ok-push.ensures.items in
     let long = ap length pushed ∙ length-append items (e.1 ∷ []) in record {
       count = omega (arith, long, count, t);
-      left = put_next inputs frames c.args.told.now c.loop-left.told n c.loop-left.left _ c.owner-who.result _ (reverse c.loop-left.outcomes.items) _ c.last_told.result
-          (omega (arith, t)) (omega (arith, t, count)) c.owner-who.ensures.which (omega (arith, t, count, few)) c.owner-who.ensures.there (ap (λ k. k - 1 - c.owner-who.result) inv.left.many) inv.left
+      left = put_next inputs frames c.args.told.now c.loop-left.told n c.loop-left.left n who _ (reverse c.loop-left.outcomes.items) f c.last_told.result
+          (omega (arith, t)) within (c.owner_at-who.ensures.which f) refl c.owner_at-who.ensures.there (ap (λ k. k - 1 - who) inv.left.many) inv.left
           c.last_told.new.told items items' e c.unwrap-outcome.ensures refl pushed c.last_told.ensures.many c.last_told.ensures.others c.last_told.ensures.popped;
     }
 

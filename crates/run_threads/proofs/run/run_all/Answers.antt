@@ -9,13 +9,13 @@ pub merge-requires-clause-told : goal.merge-requires-clause-told
 merge-requires-clause-told g c =
     let inputs = c.args.inputs.now in
     let histories : List (List (Entry Call)) = map (λ h. h.items) c.in_ok-told.histories.items in
-    are_tales inputs c.deref-2.result.now c.in_ok-told.told.items histories (c.deref-2.ensures.value ∙ c.in_ok-frames.ensures.frames) (some_shards inputs.setup.shards c.known.ensures.shards) c.in_ok-told.ensures
+    are_tales inputs c.deref-4.result.now c.in_ok-told.told.items histories (c.deref-4.ensures.value ∙ c.in_ok-frames.ensures.frames) (some_shards inputs.setup.shards c.known.ensures.shards) c.in_ok-told.ensures
 
 pub returns-clause-run : goal.returns-clause-run
 returns-clause-run g c =
     let inputs = c.args.inputs.now in
     let histories : List (List (Entry Call)) = map (λ h. h.items) c.in_ok-told.histories.items in
-    thread_run inputs c.deref-2.result.now c.in_ok-told.told.items histories (c.deref-2.ensures.value ∙ c.in_ok-frames.ensures.frames) (some_shards inputs.setup.shards c.known.ensures.shards) c.in_ok-told.ensures
+    thread_run inputs c.deref-4.result.now c.in_ok-told.told.items histories (c.deref-4.ensures.value ∙ c.in_ok-frames.ensures.frames) (some_shards inputs.setup.shards c.known.ensures.shards) c.in_ok-told.ensures
     c.in_ok-merged.merged.lines c.in_ok-merged.merged.outs c.in_ok-merged.ensures.merged
 
 pub returns-clause-sent : goal.returns-clause-sent
@@ -29,4 +29,4 @@ returns-clause-lines g c =
 pub returns-clause-few : goal.returns-clause-few
 returns-clause-few g c =
     let few = c.in_ok-merged.ensures.few in
-    let same = ap length (c.deref-2.ensures.value ∙ c.in_ok-frames.ensures.frames) ∙ sym c.requires.records in omega (arith, few, same)
+    let same = ap length (c.deref-4.ensures.value ∙ c.in_ok-frames.ensures.frames) ∙ sym c.requires.records in omega (arith, few, same)

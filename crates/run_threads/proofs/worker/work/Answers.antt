@@ -6,7 +6,7 @@ use Rattle.run_threads.proofs.worker.work.Goals as goal
 
 pub loop-frame-init : goal.loop-frame-init
 loop-frame-init g c = record {
-  begun = work_none c.args.inputs.now c.args.worker c.args.frames.now c.args.locks.now c.args.seats.now c.new-told.result.items c.requires.crew c.new-told.ensures.items;
+  begun = work_none c.args.inputs.now c.args.worker c.args.frames.now c.args.locks.now c.args.seats.now c.in_ok-told.told.items c.requires.crew c.in_ok-told.ensures.items;
   crew = c.requires.crew;
   at = refl;
 }

@@ -1,0 +1,12 @@
+use Rattle.std.proofs.Common.{◌<◌, sym, ◌∙◌, subst}
+use Rattle.bench.specs.Prepared.{prepared_of}
+use Rattle.run_threads.proofs.Owners.{work_owner, owner_there}
+use Rattle.run_threads.proofs.owner.owner.Goals as goal
+
+pub returns-in-Work-clause-there : goal.returns-in-Work-clause-there
+returns-in-Work-clause-there c =
+    let inputs = c.args.inputs.now in
+    let frame = c.args.frame.now in
+    subst (λ k. k < inputs.setup.instances)
+    (sym (work_owner inputs.setup c.args.item (prepared_of inputs c.args.item frame) c.in-Work.aim c.in-Work.instance c.in-Work.shard (sym c.in-Work.is ∙ c.judge.ensures)))
+    (owner_there c.assignments.ensures inputs c.known.ensures c.args.item frame)
