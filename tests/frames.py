@@ -1,4 +1,4 @@
-"""Puts the packets of a raw capture into other frames, for tests/behind.bash: python3 frames.py FORM IN OUT"""
+"""Puts the packets of a raw capture into other frames, for tests/behind.sh: python3 frames.py FORM IN OUT"""
 import struct
 import sys
 

@@ -1,4 +1,4 @@
-"""Makes a capture of which tools/behind cannot keep all, for tests/behind.bash: python3 troubles.py OUT"""
+"""Makes a capture of which tools/behind cannot keep all, for tests/behind.sh: python3 troubles.py OUT"""
 import sys
 
 from direct import SERVER, Direct, head

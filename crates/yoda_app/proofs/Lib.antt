@@ -1,5 +1,6 @@
 pub mod Growing
 pub mod Longer
+pub mod LongerTexts
 pub mod Named
 pub mod Outcomes
 pub mod Outputs

@@ -2,6 +2,7 @@ pub mod Commands
 pub mod DumpCommand
 pub mod Dumps
 pub mod Ends
+pub mod LongerTexts
 pub mod Outs
 pub mod Plain
 pub mod Refusals
