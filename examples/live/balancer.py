@@ -2,7 +2,6 @@
 
 That a longer run begins with the shorter one is proved (`plain_run::longer_runs`). It is looked at here again: a capture or
 a report that is not begun by the one before it ends the run."""
-import os
 import subprocess
 import time
 

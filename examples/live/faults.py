@@ -1,4 +1,4 @@
-"""The script of faults, which is written ahead of the trace: its lines are for records that are still to come."""
+"""The script of faults. It grows with the trace: its further lines are for records that were not there before."""
 import random
 
 # A crash comes after so many steps at most; where the handling has ended by then, right after it.
@@ -6,8 +6,8 @@ STEPS = 6
 
 
 class Faults:
-    """Every so many records one goes to an instance that dies in it and is back halfway to the next. Replicas fail before the
-    records that are named, the first of them first."""
+    """Every so many records one goes to an instance that dies in it and is back halfway to the next. Replica 0, 1, .. fails
+    before the record that is named for it."""
 
     def __init__(self, path, seed, instances, every, failing):
         self.file, self.draws = open(path, "w"), random.Random(seed)
