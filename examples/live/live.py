@@ -23,7 +23,8 @@ def words():
     numbers = {"downloads": 30, "uploads": 30, "bytes": 100000, "every": 20, "seed": 1, "seconds": 240}
     for name, value in numbers.items():
         parser.add_argument(f"--{name}", type=int, default=value)
-    parser.add_argument("--loss", type=float, default=2)
+    for name, value in {"loss": 2, "repeat": 0, "delay": 0}.items():
+        parser.add_argument(f"--{name}", type=float, default=value)
     parser.add_argument("--fail", type=int, nargs="*", default=[300, 1500])
     parser.add_argument("program")
     parser.add_argument("folder")
@@ -36,12 +37,11 @@ def carry(network, balancer, client, seconds):
     end = time.monotonic() + seconds
     while client.is_running() and time.monotonic() < end and balancer.records < MOST_RECORDS:
         arrived = network.arrived()
-        if arrived:
-            network.send(balancer.take(arrived))
+        network.send(balancer.take(arrived) if arrived else [])
 
 
 def join(asked, rules, balancer):
-    """Joins the clients and the servers through the balancer, and answers how many packets were lost on each way."""
+    """Joins the clients and the servers through the balancer, until the clients have ended, by the network that it answers."""
     service, hosts = rules["service"]["address"], []
     try:
         for server in rules["server"]:
@@ -52,9 +52,9 @@ def join(asked, rules, balancer):
         sizes = map(str, (asked.downloads, asked.uploads, asked.bytes, asked.seconds))
         client = Host(CLIENT, service, f"{HERE}/client.py", service, *sizes, asked.folder)
         hosts.append(client)
-        network = Network(hosts, asked.loss, asked.seed)
+        network = Network(hosts, asked.loss, asked.repeat, asked.delay, asked.seed)
         carry(network, balancer, client, asked.seconds)
-        return network.lost
+        return network
     finally:
         for host in hosts:
             host.end()
@@ -78,14 +78,16 @@ def main():
         rules = tomllib.load(file)
     faults = Faults(f"{asked.folder}/script.txt", asked.seed, rules["instances"], asked.every, asked.fail)
     balancer = Balancer(asked.program, f"{HERE}/rules.toml", asked.folder, faults)
-    lost = join(asked, rules, balancer)
+    network = join(asked, rules, balancer)
     took = time.monotonic() - begun
     downs, ups = range(asked.downloads), range(asked.downloads, asked.downloads + asked.uploads)
     came = whole(asked.folder, "download", downs, asked.bytes), whole(asked.folder, "upload", ups, asked.bytes)
     crashes, failures = faults.happened(balancer.records)
     print(f"downloads whole: {came[0]} of {len(downs)}, uploads whole: {came[1]} of {len(ups)}, of {asked.bytes} bytes each")
     print(f"crashes: {crashes}, of which {balancer.verdicts('crashed')} broke a handling off; replicas failed: {failures}")
-    print(f"packets lost: {lost[IN]} on the way in, {lost[OUT]} on the way out")
+    for what, count in ("lost", network.lost), ("repeated", network.repeated), ("delayed", network.delayed):
+        if any(count):
+            print(f"packets {what}: {count[IN]} on the way in, {count[OUT]} on the way out")
     print(f"records: {balancer.records}, in {balancer.runs} runs of plain, each of which began with the one before it")
     print(f"seconds: {took:.1f}, of which plain ran {balancer.seconds:.1f}")
     return came != (len(downs), len(ups))

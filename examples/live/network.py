@@ -55,26 +55,40 @@ class Host:
 
 
 class Network:
-    """What lies between the hosts and the balancer. So many in a hundred of the packets are lost, on each way."""
+    """What lies between the hosts and the balancer. On each way so many in a hundred of the packets are lost, come twice, or
+    come late, with the packets of the next look."""
 
-    def __init__(self, hosts, loss, seed):
-        self.loss, self.draws, self.lost = loss / 100, random.Random(seed), [0, 0]
+    def __init__(self, hosts, loss, repeat, delay, seed):
+        self.loss, self.repeat, self.delay, self.draws = loss, repeat, delay, random.Random(seed)
+        self.lost, self.repeated, self.delayed = [0, 0], [0, 0], [0, 0]
+        self.late = [[], []]
         self.by_device = {host.device: host for host in hosts}
         self.by_address = {host.address: host for host in hosts}
 
-    def keeps(self, way):
-        is_lost = self.draws.random() < self.loss
-        self.lost[way] += is_lost
-        return not is_lost
+    def happens(self, percent, count, way):
+        """Whether this happens to a packet, which is counted."""
+        does = self.draws.random() * 100 < percent
+        count[way] += does
+        return does
+
+    def through(self, packets, way):
+        """The packets that come through now."""
+        now, self.late[way] = self.late[way], []
+        for packet in packets:
+            if self.happens(self.loss, self.lost, way):
+                continue
+            for _ in range(1 + self.happens(self.repeat, self.repeated, way)):
+                (self.late[way] if self.happens(self.delay, self.delayed, way) else now).append(packet)
+        return now
 
     def arrived(self):
         """The packets that have come from the hosts since the last look."""
         ready = select.select(list(self.by_device), [], [], LOOK_SECONDS)[0]
-        return [packet for device in ready for packet in self.by_device[device].packets() if self.keeps(IN)]
+        return self.through([packet for device in ready for packet in self.by_device[device].packets()], IN)
 
     def send(self, packets):
         """Each packet goes to the host that has its destination address."""
-        for packet in packets:
+        for packet in self.through(packets, OUT):
             host = self.by_address.get(packet[16:20])
-            if host and self.keeps(OUT):
+            if host:
                 os.write(host.device, packet)
