@@ -11,6 +11,7 @@ pub mod Merging
 pub mod Named
 pub mod Owners
 pub mod Pool
+pub mod Replays
 pub mod Scripts
 pub mod Sending
 pub mod ShortOuts

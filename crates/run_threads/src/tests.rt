@@ -1,9 +1,11 @@
-ghost use Rattle.std.specs.Prelude.{◌≡◌, ◌≤◌, length, None, IfOk, IfSome};
+ghost use Rattle.std.specs.Prelude.{◌≡◌, ◌≤◌, ◌<◌, length, map, None, IfOk, IfSome};
+ghost use Rattle.bench.specs.Calls.{IsCall, AreCalls};
 ghost use Rattle.bench.specs.Inputs.{IsInputs};
 ghost use Rattle.pcap_file.specs.Frames.{capture_of, left_of};
+ghost use Rattle.run_threads.specs.Run.{IsThreadRun};
 
 use crate::{Gate, OpenGate, RunResult, run_all};
-use bench::Call;
+use bench::{Bench, Call, Reply, apply};
 use bench::input::{Inputs, TRACE_BYTES, TRACE_RECORDS};
 use flow_id::{Flow, candidate, marks_of};
 use job_core::Verdict;
@@ -11,6 +13,7 @@ use journal_text::journal;
 use pcap_file::{Reader, write_header, write_record};
 use rule_table::{Choices, Rule, Server, Service, Setup, Sizes, Text};
 use script_text::script_of;
+use seen_lock::Entry;
 use seq_space::Num;
 use std::alloc::{AllocError, Global};
 use std::sync::Wait;
@@ -69,12 +72,18 @@ fn shop(alloc: Global, instances: u16) -> Result<Setup, AllocError>
     Ok(Setup::make(sizes, service, servers, rules))
 }
 
+/// Adds the packet of a segment, where it is short.
+#[tactic(auto, using(crate::proofs::Replays::short))]
+fn add_segment(packets: &mut Vec<u8>, segment: &Segment) -> Result<(), Fail> {
+    if segment.body.as_slice().len() > 1460 {
+        return Err("too much data".into());
+    }
+    Ok(write(segment, packets)?)
+}
+
 /// The packet of a segment.
 fn packet_of(alloc: Global, row: &Row<'_>) -> Result<Vec<u8>, Fail> {
     let (from, to, numbers, flags, body) = row;
-    if body.len() > 1460 {
-        return Err("too much data".into());
-    }
     let segment = Segment {
         source: from.0,
         target: to.0,
@@ -91,7 +100,7 @@ fn packet_of(alloc: Global, row: &Row<'_>) -> Result<Vec<u8>, Fail> {
         body: Bytes::new(Vec::from_slice(alloc, body)?),
     };
     let mut packet = Vec::new(alloc);
-    write(&segment, &mut packet)?;
+    add_segment(&mut packet, &segment)?;
     Ok(packet)
 }
 
@@ -209,7 +218,65 @@ fn lines_of(alloc: Global, steps: &[u32]) -> Result<String, AllocError> {
     Ok(text)
 }
 
-/// A whole flow, from the client's SYN to the last acknowledgment: what became of each segment, and the journal.
+/// Adds the packets of these segments.
+fn add_packets(packets: &mut Vec<u8>, outs: Vec<Segment>) -> Result<(), Fail> {
+    for out in outs {
+        add_segment(packets, &out)?;
+    }
+    Ok(())
+}
+
+/// Makes the call of an entry.
+fn make(bench: &mut Bench, entry: &Entry<Call>) -> Result<Reply, AllocError>
+    requires { IsCall bench.old.setup bench.old.shard entry.now.call }
+    ensures setup { bench.new.setup ≡ bench.old.setup }
+    ensures shard { bench.new.shard ≡ bench.old.shard }
+{
+    apply(bench, &entry.call)
+}
+
+/// The packets of what a shard's bench sends in a replay of its history, one after the other.
+fn replayed(
+    alloc: Global,
+    setup: &Setup,
+    shard: u8,
+    history: &[Entry<Call>],
+) -> Result<Vec<u8>, Fail>
+    requires { AreCalls setup.now shard (map (λ e. e.call) history.now) }
+{
+    let mut bench = Bench::new(alloc, setup.copy()?, shard)?;
+    let mut packets = Vec::new(alloc);
+    for entry in history {
+        if let Reply::Done { outs, .. } = make(&mut bench, entry)? {
+            add_packets(&mut packets, outs.into_vec())?;
+        }
+    }
+    Ok(packets)
+}
+
+/// The packets of what a run sent.
+fn packets_of(alloc: Global, done: &RunResult) -> Result<Vec<u8>, Fail> {
+    let mut packets = Vec::new(alloc);
+    for (_, out) in done.result.outs.as_slice() {
+        add_segment(&mut packets, out)?;
+    }
+    Ok(packets)
+}
+
+/// Whether the replay of this shard's history alone sends what the run sent.
+fn is_replayed(alloc: Global, inputs: &Inputs, done: &RunResult, shard: u8) -> Result<bool, Fail>
+    requires run { IsThreadRun inputs.now done.now.result.lines done.now.result.outs (map (λ h. h.items) done.now.histories.items) }
+    requires shard { shard < inputs.now.setup.shards }
+{
+    let Some(history) = done.histories.get(shard as usize) else {
+        return Ok(false);
+    };
+    let packets = replayed(alloc, &inputs.setup, shard, history)?;
+    Ok(packets.as_slice() == packets_of(alloc, done)?.as_slice())
+}
+
+/// A whole flow, from the client's SYN to the last acknowledgment: what became of each segment, and the journal, whose replay
+/// sends the same.
 #[test]
 fn a_whole_flow_has_its_journal(rt: HostRuntime) -> Result<(), Fail> {
     let alloc = rt.alloc();
@@ -254,6 +321,8 @@ fn a_whole_flow_has_its_journal(rt: HostRuntime) -> Result<(), Fail> {
     assert_eq!(rt; done.result.outs.as_slice().len(), 10);
     let wanted = lines_of(alloc, &[3, 4, 10, 9, 9, 9, 6, 12, 9, 9])?;
     assert!(rt; journal_of(alloc, &done)?.as_slice() == wanted.as_bytes());
+    assert!(rt; inputs.setup.shards() == 4);
+    assert!(rt; is_replayed(alloc, &inputs, &done, 3)?);
     Ok(())
 }
 

@@ -1,0 +1,8 @@
+use Rattle.std.proofs.Common.{◌≡◌}
+use Rattle.run_threads.proofs.tests.replayed.Given as goal
+
+abbrev pub invariant-loop-entry : goal.invariant-loop-entry
+invariant-loop-entry l = record {
+  setup : l.bench.setup ≡ l.setup;
+  shard : l.bench.shard ≡ l.fn.shard;
+}
