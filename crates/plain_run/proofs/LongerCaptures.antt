@@ -6,7 +6,7 @@ use Rattle.std.proofs.lemmas.List.{drop-append-le, take-append-le}
 use Rattle.bench.specs.Incoming.{incoming, network_incoming}
 use Rattle.common.specs.Faults.{first}
 use Rattle.job_core.specs.declared.verdict.Verdict.TheVariants.{SnapCut}
-use Rattle.pcap_file.specs.Capture.{number_at, magic_of, is_little, major_of, minor_of, link_type, header_faults, settings_of, IsFrame}
+use Rattle.pcap_file.specs.Capture.{number_at, magic_of, is_little, link_type, header_faults, settings_of, IsFrame}
 use Rattle.pcap_file.specs.Ethernet.{network_of}
 use Rattle.pcap_file.specs.Frames.{Capture, SpellsFrames, SpellsCapture, left_of, opened_with, capture_of}
 use Rattle.pcap_file.specs.declared.capture.Frame.{Frame}
@@ -45,10 +45,10 @@ module _ (xs ys : List ℕ) (long : 24 ≤ length xs) where
   little_same : is_little (xs ++ ys) ≡ is_little xs
   little_same = ap (λ (m : ℕ). m == 0xd4c3_b2a1 || m == 0x4d3c_b2a1) magic_inside
 
-  major_same : major_of (xs ++ ys) ≡ major_of xs
+  major_same : number_at (is_little (xs ++ ys)) 4 2 (xs ++ ys) ≡ number_at (is_little xs) 4 2 xs
   major_same = ap (λ (l : Bool). number_at l 4 2 (xs ++ ys)) little_same ∙ two_at (is_little xs) 4 xs ys (omega arith)
 
-  minor_same : minor_of (xs ++ ys) ≡ minor_of xs
+  minor_same : number_at (is_little (xs ++ ys)) 6 2 (xs ++ ys) ≡ number_at (is_little xs) 6 2 xs
   minor_same = ap (λ (l : Bool). number_at l 6 2 (xs ++ ys)) little_same ∙ two_at (is_little xs) 6 xs ys (omega arith)
 
   link_same : link_type (xs ++ ys) ≡ link_type xs

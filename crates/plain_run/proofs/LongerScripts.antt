@@ -1,6 +1,6 @@
 -- What a script says of a record depends on its lines for that record and earlier ones alone.
-use Rattle.std.proofs.Common.{◌≡◌, ℕ, ◌<◌, Bool, true, false, not, ◌&&◌, ◌||◌, ◌==◌, nat_lt, nat_le, cond, if◌then◌else◌, List, [], ◌∷◌, Option, Some, Result, Ok, Err, find, unwrap_or, refl, sym, ◌∙◌, ap, arith}
-use Rattle.std.specs.List.{filter, list_any}
+use Rattle.std.proofs.Common.{◌≡◌, ℕ, ◌+◌, ◌%◌, ◌<◌, Bool, true, false, not, ◌&&◌, ◌||◌, ◌==◌, nat_lt, nat_le, cond, if◌then◌else◌, List, [], ◌∷◌, Option, Some, Result, Ok, Err, find, map, unwrap_or, refl, sym, ◌∙◌, ap, arith}
+use Rattle.std.specs.List.{filter, list_any, range_with_len}
 use Rattle.std.proofs.lemmas.Grind.{common_steps}
 use Rattle.bench.specs.Blocks.{CallAt}
 use Rattle.bench.specs.Prepared.{work_of, client_instance, server_instance, prepared_by, prepared}
@@ -15,7 +15,7 @@ use Rattle.plain_run.specs.Fold.{block_with}
 use Rattle.plain_run.specs.Longer.{record_of, lines_below}
 use Rattle.plain_run.proofs.Dues.{block_due}
 use Rattle.rule_table.specs.Setups.{SetupView}
-use Rattle.script_text.specs.Lives.{crashes_below, is_back_by, is_down, given, round_from, assigned}
+use Rattle.script_text.specs.Lives.{crashes_below, is_back_by, is_down, given, assigned}
 use Rattle.script_text.specs.declared.line.Line.{Line}
 use Rattle.script_text.specs.declared.line.Line.TheVariants.{Give, Crash, Back, Fail}
 use Rattle.tcp_segment.specs.declared.segment.Segment.{Segment}
@@ -111,7 +111,7 @@ module _ (records at : ℕ) (early : at < records) where
 
   assigned_early : (lines : List Line) (instances start : ℕ) → assigned (early_lines lines) instances at start ≡ assigned lines instances at start
   assigned_early lines instances start =
-      λ k. find (λ i. not (down_early i lines k)) (round_from instances (unwrap_or (given_early lines k) start))
+      λ k. find (λ i. not (down_early i lines k)) (map (λ i. (unwrap_or (given_early lines k) start + i) % instances) (range_with_len 0 instances))
 
   by_early : (setup : SetupView) (lines : List Line) (segment : Segment) (a : Aim) → prepared_by setup (early_lines lines) at segment a ≡ prepared_by setup lines at segment a
   by_early setup lines segment (aim.Client flow) =
