@@ -5,7 +5,7 @@ use Rattle.std.specs.Prelude.{◌-◌, ◌%◌, ◌*◌, ◌/◌, ◌+◌, ◌==
 use Rattle.std.specs.List.{fold, range_with_len}
 use Rattle.bench.specs.Bench.{job_at}
 use Rattle.bench.specs.Blocks.{budget}
-use Rattle.drive_plan.specs.Generator.{next_state, drawn, after_turn, turn_of}
+use Rattle.drive_plan.specs.Generator.{next_state, drawn, turn_of}
 use Rattle.drive_plan.specs.declared.generator.Turn.{Turn}
 use Rattle.world_model.specs.declared.at.At.{At}
 use Rattle.world_model.specs.declared.at.At.TheVariants.{Client, Server}

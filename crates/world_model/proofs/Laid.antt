@@ -1,11 +1,11 @@
 -- What a handling sends, one segment after the other.
-use Rattle.std.proofs.Common.{◌≡◌, ℕ, suc, ◌+◌, ◌≤◌, ◌<◌, ◌^◌, Bool, true, false, Option, Some, None, List, [], ◌∷◌, ◌++◌, length, map, refl, sym, ◌∙◌, ap, subst, arith, append_assoc}
-use Rattle.std.proofs.lemmas.List.{length-append, append-nil}
+use Rattle.std.proofs.Common.{◌≡◌, ℕ, suc, ◌+◌, ◌≤◌, ◌<◌, ◌^◌, Bool, true, false, Option, Some, None, List, [], ◌∷◌, ◌++◌, length, map, refl, sym, ◌∙◌, ap, arith, append_assoc}
+use Rattle.std.proofs.lemmas.List.{length-append}
 use Rattle.rule_table.specs.Setups.{SetupView}
 use Rattle.world_model.specs.declared.client.ClientSpec.{ClientSpec}
 use Rattle.world_model.specs.Outs.{handled_sends}
 use Rattle.world_model.specs.Placed.{first_by, honest_client, sending}
-use Rattle.world_model.specs.World.{World, ServerEnd}
+use Rattle.world_model.specs.World.{ServerEnd}
 use Rattle.std.specs.Prelude.{option_and_then, option_map, is_some}
 use Rattle.flow_id.specs.declared.key.Flow.{Flow}
 use Rattle.job_core.specs.declared.verdict.Verdict.{Verdict}
@@ -13,7 +13,7 @@ use Rattle.tcp_segment.specs.declared.segment.Segment.{Segment}
 use Rattle.world_model.specs.declared.laying.Place.{Place}
 use Rattle.world_model.specs.Outs.{out_at, shown_from, placed, placed_for}
 use Rattle.world_model.specs.Placed.{place_by, place_verdict, reach_of, reach, behind_by, behind, behind_all, laid, total}
-use Rattle.world_model.specs.Posted.{Posted, balancer, nowhere}
+use Rattle.world_model.specs.Posted.{Posted}
 
 pub laid_more : (flow : Option Flow) (place : Place) (outs : List Segment) (s : Segment)
     → laid flow place (outs ++ s ∷ []) ≡ laid flow place outs ++ out_at flow (behind_all place outs).position (behind_all place outs).acknowledged s ∷ []

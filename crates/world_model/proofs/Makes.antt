@@ -1,9 +1,9 @@
 -- What the code makes of the parts of a world is the world after the event.
-use Rattle.std.proofs.Common.{◌≡◌, ℕ, zero, suc, ◌+◌, ◌<◌, Bool, true, false, Option, Some, None, List, [], ◌∷◌, ◌++◌, length, refl, sym, ◌∙◌, ap, subst, arith}
-use Rattle.std.specs.Prelude.{IsTrue, slice_get, slice_set, nat_lt, ◌&&◌, option_and_then, is_some}
+use Rattle.std.proofs.Common.{◌≡◌, ℕ, zero, suc, ◌<◌, Bool, true, false, Option, Some, None, List, ◌++◌, length, refl, sym, ◌∙◌, ap, subst, arith}
+use Rattle.std.specs.Prelude.{IsTrue, slice_get, slice_set, nat_lt, option_and_then}
 use Rattle.std.proofs.lemmas.Bool.{ltb-true, and_parts}
 use Rattle.std.proofs.lemmas.List.{append-nil}
-use Rattle.std.proofs.lemmas.Option.{none-some, same_Some}
+use Rattle.std.proofs.lemmas.Option.{same_Some}
 use Rattle.std.specs.List.{last_or}
 use Rattle.bench.specs.Bench.{BenchState, JobState, answer_of, desk_at, job_at, says, served, step_at}
 use Rattle.bench.specs.Bench.{stepped_by as bench_stepped_by}
@@ -12,7 +12,6 @@ use Rattle.bench.specs.declared.call.Call.TheVariants.{Take, Step}
 use Rattle.bench.specs.declared.call.Reply.{Reply}
 use Rattle.bench.specs.declared.call.Reply.TheVariants as reply
 use Rattle.flow_id.specs.declared.key.Flow.{Flow}
-use Rattle.flow_id.specs.Ports.{shard_of, shard_of_port}
 use Rattle.job_core.specs.Jobs.{is_taken}
 use Rattle.job_core.specs.declared.aim.Aim.{Aim}
 use Rattle.job_core.specs.declared.aim.Aim.TheVariants as aim
@@ -21,7 +20,7 @@ use Rattle.job_core.specs.declared.verdict.Verdict.{Verdict}
 use Rattle.replica_cell.specs.Walks.{walk_after}
 use Rattle.rule_table.specs.Setups.{SetupView, IsSetup}
 use Rattle.tcp_segment.specs.declared.segment.Segment.{Segment}
-use Rattle.world_model.specs.After.{after, called, took, take_call}
+use Rattle.world_model.specs.After.{after, took, take_call}
 use Rattle.world_model.specs.Enabled.{home}
 use Rattle.world_model.specs.Events.{takes, calls}
 use Rattle.world_model.specs.Flows.{aim_of}
@@ -33,7 +32,7 @@ use Rattle.world_model.specs.Shape.{IsShard, HasShape}
 use Rattle.world_model.specs.declared.client.ClientSpec.{ClientSpec}
 use Rattle.world_model.specs.World.{World, Shard, ServerEnd, shard_at, bench_at, end_of_client}
 use Rattle.world_model.proofs.Shapes.{the_shard}
-use Rattle.world_model.specs.Enabled.{is_out, may_handle, may_open}
+use Rattle.world_model.specs.Enabled.{is_out, may_handle}
 use Rattle.world_model.specs.Steps.{is_enabled, events_of, stepped, stepped_by, IsEvent, StepLaw}
 use Rattle.world_model.specs.Reached.{IsReached}
 use Rattle.world_model.proofs.Reaching.{goes_on}

@@ -1,6 +1,6 @@
 -- What the code makes of a world's ends, and of what they send, is the world after the event.
 use Rattle.std.proofs.Common.{◌≡◌, ℕ, ◌+◌, ◌<◌, Bool, cond, true, false, Option, Some, None, List, [], ◌∷◌, ◌++◌, length, refl, sym, ◌∙◌, ap, subst, arith}
-use Rattle.std.specs.Prelude.{◌&&◌, slice_get, slice_set, find, is_some, is_none, option_map, option_and_then, not, if◌then◌else◌}
+use Rattle.std.specs.Prelude.{slice_get, slice_set, find, is_some, option_map, option_and_then, not, if◌then◌else◌}
 use Rattle.std.proofs.lemmas.Bool.{and_parts, ltb-true}
 use Rattle.std.proofs.lemmas.Option.{none-some, same_Some}
 use Rattle.seq_space.specs.declared.Num.{Num}
@@ -13,18 +13,17 @@ use Rattle.world_model.specs.declared.at.At.{At}
 use Rattle.world_model.specs.declared.at.At.TheVariants.{Client, Server}
 use Rattle.world_model.specs.declared.event.Event.{Event}
 use Rattle.world_model.specs.declared.event.Event.TheVariants as event
-use Rattle.world_model.specs.After.{after, placed_at, sent_by, aborted_by, received, received_at, refused, refusal_of, with_sent}
-use Rattle.world_model.specs.Events.{sends, aborts, receives, refuses}
+use Rattle.world_model.specs.After.{placed_at, sent_by, aborted_by, received, received_at, refused}
 use Rattle.world_model.specs.Flows.{client_behind}
 use Rattle.world_model.specs.Posted.{Posted, end, nowhere}
 use Rattle.world_model.specs.Routes.{route_of, segment_on}
 use Rattle.world_model.specs.Runs.{after_all}
-use Rattle.world_model.specs.Sending.{next_by, next_of, next_sent, with_any}
+use Rattle.world_model.specs.Sending.{next_of, next_sent, with_any}
 use Rattle.world_model.specs.Slots.{end_in, ends_with, servers_with}
 use Rattle.world_model.specs.Enabled.{goes_to_end, is_living, may_receive, may_take, may_write}
-use Rattle.world_model.specs.Steps.{plain, send_at, is_enabled, events_of, IsEvent}
+use Rattle.world_model.specs.Steps.{plain, send_at, is_enabled, events_of}
 use Rattle.world_model.specs.World.{World, ServerEnd, is_end, end_at, with_end, with_server_end}
-use Rattle.world_model.proofs.Swaps.{client_there, server_there}
+use Rattle.world_model.proofs.Swaps.{client_there}
 use Rattle.world_model.proofs.Writing.{get_within, got_within}
 
 -- ---- the world and what it is made of

@@ -1,6 +1,6 @@
 -- What the code of a generated run makes of a world is what the schedule says.
-use Rattle.std.proofs.Common.{◌≡◌, ℕ, zero, suc, ◌+◌, ◌<◌, ◌≤◌, ◌%◌, Bool, true, false, Option, Some, None, List, [], ◌∷◌, ◌++◌, length, refl, sym, ◌∙◌, ap, subst, arith}
-use Rattle.std.specs.Prelude.{◌==◌, is_some, nat_lt, slice_get, slice_set, unwrap_or, if◌then◌else◌}
+use Rattle.std.proofs.Common.{◌≡◌, ℕ, zero, suc, ◌<◌, ◌≤◌, ◌%◌, Bool, true, false, Option, Some, None, List, [], ◌∷◌, ◌++◌, length, refl, sym, ◌∙◌, ap, arith}
+use Rattle.std.specs.Prelude.{is_some, slice_get, slice_set, unwrap_or, if◌then◌else◌}
 use Rattle.std.proofs.lemmas.Bool.{lt-ltb, le-ltb, eq-eqb, ne_eqb}
 use Rattle.std.proofs.lemmas.List.{append-nil}
 use Rattle.bench.specs.Bench.{BenchState, JobState, job_at, step_at}
@@ -15,9 +15,8 @@ use Rattle.world_model.specs.Enabled.{is_living}
 use Rattle.world_model.specs.Events.{calls}
 use Rattle.world_model.specs.Outs.{reply_sends}
 use Rattle.world_model.specs.Posted.{Posted}
-use Rattle.world_model.specs.Runs.{after_all}
-use Rattle.world_model.specs.Schedule.{Moment, moment, made, server_named, sent_by_any, sent_by_drawn, end_for, taken_by, taken_drawn, turned, turn_made, shard_for, stepped_on, stepped_out, handled, out_by, out_taken, sent_and_handled, exchanged, is_over, clients_exchanged, servers_exchanged, round_made}
-use Rattle.world_model.specs.Steps.{events_of, is_enabled, stepped, stepped_by}
+use Rattle.world_model.specs.Schedule.{moment, made, server_named, sent_by_any, sent_by_drawn, end_for, taken_by, taken_drawn, turned, turn_made, shard_for, stepped_on, stepped_out, handled, out_by, out_taken, sent_and_handled, exchanged, is_over, clients_exchanged, servers_exchanged, round_made}
+use Rattle.world_model.specs.Steps.{is_enabled, stepped, stepped_by}
 use Rattle.world_model.specs.World.{World, Shard, no_shard, shard_at, bench_at, end_at}
 use Rattle.world_model.specs.declared.at.At.{At}
 use Rattle.world_model.specs.declared.at.At.TheVariants.{Client}

@@ -4,7 +4,6 @@ use Rattle.std.specs.List.{range_with_len}
 use Rattle.drive_plan.specs.Generator.{next_state, drawn}
 use Rattle.drive_plan.specs.Streams.{client_byte_at, server_byte_at, head_text}
 use Rattle.rule_table.specs.Setups.{SetupView}
-use Rattle.rule_table.specs.declared.types.Server.{Server}
 use Rattle.world_model.specs.declared.client.ClientSpec.{ClientSpec}
 
 -- ---- the balancer

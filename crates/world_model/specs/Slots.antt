@@ -1,5 +1,5 @@
 -- The ends of a world as the two lists in which they stand.
-use Rattle.std.specs.Prelude.{ℕ, Option, Some, List, slice_get, slice_set, find, option_map, option_and_then}
+use Rattle.std.specs.Prelude.{Option, Some, List, slice_get, slice_set, find, option_map, option_and_then}
 use Rattle.tcp_end.specs.EndState.{EndState}
 use Rattle.world_model.specs.declared.at.At.{At}
 use Rattle.world_model.specs.declared.at.At.TheVariants.{Client, Server}

@@ -1,5 +1,5 @@
 -- What a generated run has come to.
-use Rattle.std.specs.Prelude.{ℕ, ◌-◌, ◌^◌, min, not, Option, Some, None, List, length, map, count_by}
+use Rattle.std.specs.Prelude.{ℕ, ◌-◌, ◌^◌, min, not, Option, Some, None, length, count_by}
 use Rattle.std.specs.List.{range_with_len, sum_by}
 use Rattle.tcp_end.specs.EndState.{EndState}
 use Rattle.world_model.specs.declared.summary.Summary.{Summary}

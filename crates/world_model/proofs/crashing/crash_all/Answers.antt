@@ -1,9 +1,7 @@
-use Rattle.std.proofs.Common.{◌≡◌, [], ◌∷◌, map, refl}
+use Rattle.std.proofs.Common.{[], ◌∷◌, map, refl}
 use Rattle.std.specs.List.{range_with_len}
 use Rattle.bench.specs.declared.call.Call.TheVariants.{Crash}
 use Rattle.world_model.specs.Events.{calls}
-use Rattle.world_model.specs.Runs.{after_all}
-use Rattle.world_model.specs.World.{World}
 use Rattle.world_model.proofs.Everywhere.{goes_further, map_range}
 use Rattle.world_model.proofs.crashing.crash_all.Goals as goal
 

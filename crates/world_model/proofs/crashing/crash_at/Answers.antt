@@ -1,8 +1,8 @@
-use Rattle.std.proofs.Common.{◌≡◌, ap, subst, sym, ◌∙◌}
+use Rattle.std.proofs.Common.{ap, subst, sym, ◌∙◌}
 use Rattle.std.specs.Prelude.{slice_set}
 use Rattle.std.proofs.lemmas.Option.{slice_get-get_or}
 use Rattle.bench.specs.declared.call.Call.TheVariants.{Crash}
-use Rattle.world_model.specs.World.{World, Shard}
+use Rattle.world_model.specs.World.{Shard}
 use Rattle.world_model.proofs.Everywhere.{AreOwn, call_is, call_own, crash_fits}
 use Rattle.world_model.proofs.crashing.crash_at.Goals as goal
 

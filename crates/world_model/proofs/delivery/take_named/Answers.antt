@@ -1,8 +1,7 @@
-use Rattle.std.proofs.Common.{◌≡◌, Some, sym, ap, ◌∙◌}
+use Rattle.std.proofs.Common.{sym, ap, ◌∙◌}
 use Rattle.std.specs.Prelude.{slice_get, find}
 use Rattle.tcp_end.specs.Taking.{taken}
 use Rattle.world_model.specs.Names.{end_name}
-use Rattle.world_model.specs.World.{is_end}
 use Rattle.world_model.proofs.Calls.{on_ok}
 use Rattle.world_model.proofs.Making.{found_none}
 use Rattle.world_model.proofs.Named.{either_way, put_named, put_names}

@@ -1,4 +1,4 @@
-use Rattle.std.proofs.Common.{◌≡◌, List, refl}
+use Rattle.std.proofs.Common.{refl}
 use Rattle.std.specs.List.{flat_map, range_with_len}
 use Rattle.world_model.specs.Steps.{fails_at}
 use Rattle.world_model.proofs.Everywhere.{goes_further, flat_range}

@@ -1,8 +1,8 @@
-use Rattle.std.proofs.Common.{◌≡◌, ◌<◌, ℕ, ap, subst, sym, ◌∙◌}
+use Rattle.std.proofs.Common.{◌<◌, ℕ, ap, subst, sym, ◌∙◌}
 use Rattle.std.specs.Prelude.{slice_set}
 use Rattle.std.proofs.lemmas.Option.{slice_get-get_or}
 use Rattle.bench.specs.declared.call.Call.TheVariants.{Fail}
-use Rattle.world_model.specs.World.{World, Shard}
+use Rattle.world_model.specs.World.{Shard}
 use Rattle.world_model.proofs.Everywhere.{AreOwn, call_is, call_own, fail_fits, fails_is}
 use Rattle.world_model.proofs.failing.fail_at.Goals as goal
 

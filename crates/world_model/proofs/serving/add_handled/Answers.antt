@@ -1,4 +1,4 @@
-use Rattle.std.proofs.Common.{◌≡◌, ◌++◌, ◌∙◌, ap}
+use Rattle.std.proofs.Common.{◌++◌, ◌∙◌, ap}
 use Rattle.std.specs.Prelude.{slice_get, option_and_then}
 use Rattle.world_model.specs.Placed.{first_by}
 use Rattle.world_model.proofs.Laid.{handled_laid}

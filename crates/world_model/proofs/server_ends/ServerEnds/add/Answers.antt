@@ -1,4 +1,4 @@
-use Rattle.std.proofs.Common.{◌≡◌, ◌++◌, [], ◌∷◌, map, sym, ap, ◌∙◌, refl}
+use Rattle.std.proofs.Common.{◌++◌, [], ◌∷◌, map, sym, ap, ◌∙◌, refl}
 use Rattle.std.specs.Prelude.{find}
 use Rattle.world_model.specs.Names.{end_name}
 use Rattle.world_model.specs.World.{is_end}

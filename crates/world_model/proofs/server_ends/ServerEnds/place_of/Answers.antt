@@ -1,4 +1,4 @@
-use Rattle.std.proofs.Common.{◌≡◌, ℕ, List, Option, None, sym, ap, subst, ◌∙◌}
+use Rattle.std.proofs.Common.{◌≡◌, List, sym, ap, subst, ◌∙◌}
 use Rattle.std.specs.Prelude.{IfSome, find, slice_get}
 use Rattle.world_model.specs.Names.{end_name}
 use Rattle.world_model.specs.World.{is_end}

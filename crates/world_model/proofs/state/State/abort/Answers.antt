@@ -1,5 +1,4 @@
-use Rattle.std.proofs.Common.{◌≡◌, Some, None, ◌++◌, ◌∷◌, [], sym, ◌∙◌, ap}
-use Rattle.tcp_end.specs.Sending.{reset_of}
+use Rattle.std.proofs.Common.{◌++◌, ◌∷◌, [], sym, ◌∙◌, ap}
 use Rattle.world_model.specs.Posted.{end, nowhere}
 use Rattle.world_model.specs.Routes.{route_of, segment_on}
 use Rattle.world_model.specs.Steps.{plain}

@@ -1,4 +1,4 @@
-use Rattle.std.proofs.Common.{◌≡◌, ◌∙◌, sym, ap, subst, true}
+use Rattle.std.proofs.Common.{◌≡◌, subst, true}
 use Rattle.world_model.specs.Steps.{is_enabled}
 use Rattle.world_model.specs.contracts.state.State.{the_view}
 use Rattle.world_model.specs.declared.at.At.TheVariants.{Client, Server}
