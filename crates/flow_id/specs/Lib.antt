@@ -3,3 +3,4 @@ pub mod Hashes
 pub mod Keys
 pub mod Laws
 pub mod Ports
+pub mod Words

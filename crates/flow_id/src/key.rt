@@ -4,7 +4,7 @@ ghost use Rattle.flow_id.specs.Flows.{flow_bytes, flow_of};
 use common::{u16_at, u32_at};
 
 /// A connection of a client to a service.
-#[derive(Clone, Copy, Debug, PartialEq, Eq, Hash)]
+#[derive(Clone, Copy, Debug, PartialEq, Eq)]
 pub struct Flow {
     /// The service's number.
     pub service: u16,
@@ -52,7 +52,7 @@ pub enum Side {
 }
 
 /// The name of a record: what is decided once for it stands for good.
-#[derive(Clone, Copy, Debug, PartialEq, Eq, Hash)]
+#[derive(Clone, Copy, Debug, PartialEq, Eq)]
 pub enum Key {
     /// The client's SYN.
     Syn(Flow),

@@ -5,6 +5,7 @@
 #![tactic(auto)]
 
 mod hash;
+mod hashed;
 mod key;
 mod keyed;
 mod laws;
