@@ -1,13 +1,13 @@
 ghost use Rattle.std.specs.Prelude.{◌≡◌};
-ghost use Rattle.std.specs.Hash.DefaultHasher.{initial, write};
+ghost use Rattle.std.specs.Hash.FoldHasher.{initial, write};
 
-use std::hash::{BuildHasher, DefaultHasher, Hasher};
+use std::hash::{BuildHasher, FoldHasher, Hasher};
 
 /// Makes the hashers of a map whose keys strangers choose: each has taken in a secret, without which nobody can tell which
 /// keys have equal hashes.
 #[derive(Clone, Copy)]
 pub struct Keyed {
-    start: DefaultHasher,
+    start: FoldHasher,
 }
 
 impl Keyed {
@@ -15,18 +15,18 @@ impl Keyed {
     pub fn by(secret: &[u8; 32]) -> Keyed
         ensures { result.start ≡ write initial secret.now }
     {
-        let mut start = DefaultHasher::new();
+        let mut start = FoldHasher::default();
         start.write(secret);
         Keyed { start }
     }
 }
 
 impl BuildHasher for Keyed {
-    type Hasher = DefaultHasher;
+    type Hasher = FoldHasher;
 
     ghost build_hasher = { λ k. k.start };
 
-    fn build_hasher(&self) -> DefaultHasher {
+    fn build_hasher(&self) -> FoldHasher {
         self.start
     }
 }
