@@ -1,5 +1,5 @@
 -- The search for a living instance.
-use Rattle.std.proofs.Common.{◌≡◌, ℕ, zero, suc, ◌+◌, ◌%◌, ◌<◌, ◌≤◌, length-drop, Bool, true, false, List, [], ◌∷◌, length, get_or, drop, find, Some, None, unwrap_or, refl, sym, ap, subst, ◌∙◌, cond, arith, add-one, drop-cons, inl, inr, All}
+use Rattle.std.proofs.Common.{◌≡◌, ℕ, zero, suc, ◌+◌, ◌%◌, ◌<◌, ◌≤◌, length-drop, Bool, true, false, List, [], ◌∷◌, length, map, get_or, drop, find, Some, None, unwrap_or, refl, sym, ap, subst, ◌∙◌, cond, arith, add-one, drop-cons, inl, inr, All}
 use Rattle.std.specs.List.{range_with_len}
 use Rattle.std.proofs.lemmas.Nat.{mod_below}
 use Rattle.std.proofs.lemmas.Bool.{cond-true, cond-false, cases_Bool}

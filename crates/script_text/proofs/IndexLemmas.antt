@@ -13,7 +13,7 @@ use Rattle.script_text.specs.Faults.{fails, last_turn, may_crash, may_back}
 use Rattle.script_text.specs.Lives.{given}
 use Rattle.script_text.specs.Changes.{changes_of}
 use Rattle.script_text.specs.Index.{IsIndex, IsLife, MayStand}
-use Rattle.script_text.proofs.LineLemmas.{any-last_yes, any-last_no, given-first, given-other}
+use Rattle.script_text.proofs.LineLemmas.{any-last_yes, any-last_no, given-any, given-first, given-other}
 use Rattle.script_text.proofs.LifeLemmas.{life-other, life-crash, life-back}
 
 -- where all are empty, so is what is found
@@ -34,7 +34,7 @@ pub index-give : (lines : List Line) (old new : Index) (item instance : ℕ)
     → IsIndex lines old → MayStand lines (Give item instance) → IsIndex (lines ++ Give item instance ∷ []) new
 index-give lines old new item instance here others failed lives is may = record {
   gives = λ at. elim (cases_eq item at) [
-    | inl same ↦ subst (λ q. map.get nat_eq new.gives q ≡ given (lines ++ x ∷ []) q) same (here ∙ sym (given-first lines item instance may.once))
+    | inl same ↦ subst (λ q. map.get nat_eq new.gives q ≡ given (lines ++ x ∷ []) q) same (here ∙ sym (given-first lines item instance (sym (given-any lines item) ∙ may.once)))
     | inr other ↦ others at (ne_eqb item at other) ∙ is.gives at ∙ sym (given-other lines x at (ne_eqb item at other))
   ];
   failed = λ n. ap (λ f. set.contains nat_eq f n) failed ∙ is.failed n ∙ sym (any-last_no (fails n) lines x refl);

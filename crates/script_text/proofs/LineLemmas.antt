@@ -5,8 +5,13 @@ use Rattle.std.proofs.lemmas.Bool.{cond-true, cond-false, or_right, or_left, or_
 use Rattle.std.proofs.lemmas.List.Sums.{fold-append}
 use Rattle.script_text.specs.declared.line.Line.{Line}
 use Rattle.script_text.specs.declared.line.Line.TheVariants.{Give, Crash, Back, Fail}
-use Rattle.script_text.specs.Faults.{gives, turns, last_turn}
+use Rattle.script_text.specs.Faults.{turns, last_turn}
 use Rattle.script_text.specs.Lives.{crashes_below, is_back_by, is_down, given}
+
+-- a `give` of the record with this number
+abbrev pub gives : ℕ → Line → Bool
+gives number (Give item instance) = eqb item number
+gives number _ = false
 
 or-false : (a : Bool) → (a || false) ≡ a
 or-false true = refl

@@ -1,5 +1,5 @@
 -- What an index tells of the lines that it was made for.
-use Rattle.std.specs.Prelude.{◌≡◌, ℕ, ◌-◌, ◌^◌, ◌<◌, ◌≤◌, ⊤, false, ◌&&◌, not, nat_eq, nat_le, List, length}
+use Rattle.std.specs.Prelude.{◌≡◌, ℕ, ◌-◌, ◌^◌, ◌<◌, ⊤, false, ◌&&◌, not, nat_eq, nat_le, List, length}
 use Rattle.std.specs.List.{list_any, count_by}
 use Rattle.std.specs.List.Sorted.{IsNonDecreasing}
 use Rattle.std.specs.HashMap as map

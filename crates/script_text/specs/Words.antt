@@ -7,18 +7,10 @@ use Rattle.std.specs.Str.{bytes_eq}
 use Rattle.script_text.specs.declared.line.Line.{Line}
 use Rattle.script_text.specs.declared.line.Line.TheVariants.{Give, Crash, Back, Fail}
 
--- b' '
-abbrev pub space : ℕ
-space = 32
-
--- b'#'
-abbrev pub hash : ℕ
-hash = 35
-
--- a line that says nothing: an empty one, or a comment
+-- a line that says nothing: an empty one, or a comment, which begins with `#`
 abbrev pub is_skipped : List ℕ → Bool
 is_skipped [] = true
-is_skipped (b ∷ text) = b == hash
+is_skipped (b ∷ text) = b == 35
 
 -- decimal digits without a zero in front
 abbrev pub is_number : List ℕ → Bool
@@ -39,39 +31,26 @@ number_of word = if is_number word then Some (number_from 0 word) else None
 abbrev pub of_numbers : (ℕ → ℕ → Line) → List ℕ → List ℕ → Option Line
 of_numbers line a b = option_and_then (λ m. option_map (line m) (number_of b)) (number_of a)
 
--- `give N I`
-abbrev pub give_of : List ℕ → List ℕ → List ℕ → Option Line
-give_of verb item instance = if bytes_eq verb (codes "give") then of_numbers Give item instance else None
-
--- `back I at N` and `fail R at N`
-abbrev pub change_of : List ℕ → List ℕ → List ℕ → List ℕ → Option Line
-change_of verb number at item =
-    if bytes_eq at (codes "at")
-    then (if bytes_eq verb (codes "back") then of_numbers Back number item
-    else if bytes_eq verb (codes "fail") then of_numbers Fail number item
-    else None)
-    else None
-
--- the words of `crash I at N after M` that are no numbers
-abbrev pub is_crash : List ℕ → List ℕ → List ℕ → Bool
-is_crash verb at after = bytes_eq verb (codes "crash") && bytes_eq at (codes "at") && bytes_eq after (codes "after")
-
--- `crash I at N after M`, from I, N and M
-abbrev pub crash_of : List ℕ → List ℕ → List ℕ → Option Line
-crash_of instance item steps =
-    option_and_then (λ m. of_numbers (λ i n. Crash i n m) instance item) (number_of steps)
-
--- the line of these words, None where they have none of the four forms
+-- the line of these words, None where they have none of the four forms:
+-- `give N I`, `back I at N`, `fail R at N` and `crash I at N after M`
 abbrev pub line_of : List (List ℕ) → Option Line
-line_of (verb ∷ item ∷ instance ∷ []) = give_of verb item instance
-line_of (verb ∷ number ∷ at ∷ item ∷ []) = change_of verb number at item
+line_of (verb ∷ item ∷ instance ∷ []) = if bytes_eq verb (codes "give") then of_numbers Give item instance else None
+line_of (verb ∷ number ∷ at ∷ item ∷ []) =
+    if not (bytes_eq at (codes "at")) then None
+    else if bytes_eq verb (codes "back") then of_numbers Back number item
+    else if bytes_eq verb (codes "fail") then of_numbers Fail number item
+    else None
 line_of (verb ∷ instance ∷ at ∷ item ∷ after ∷ steps ∷ []) =
-    if is_crash verb at after then crash_of instance item steps else None
+    if bytes_eq verb (codes "crash") && bytes_eq at (codes "at") && bytes_eq after (codes "after")
+    then option_and_then (λ m. of_numbers (λ i n. Crash i n m) instance item) (number_of steps)
+    else None
 line_of words = None
 
 -- the words, with one space between two
 abbrev pub words_of : List ℕ → List (List ℕ)
-words_of text = slice_split (λ b. b == space) text
+words_of text = slice_split (λ b. b == 32) text
+
+-- ---- as the code keeps numbers
 
 -- a number as a field of so many bits has it: one that is too large is the largest there
 abbrev pub cut : ℕ → ℕ → ℕ

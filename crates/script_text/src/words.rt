@@ -1,8 +1,9 @@
-ghost use Rattle.std.specs.Prelude.{◌≡◌, ℕ, List, map, option_map, IfOk};
+ghost use Rattle.std.specs.Prelude.{◌≡◌, ◌&&◌, ◌∷◌, [], ℕ, List, codes, map, option_map, IfOk};
 ghost use Rattle.std.specs.Char.{is_ascii_digit};
 ghost use Rattle.std.specs.List.{list_all};
+ghost use Rattle.std.specs.Option.{option_and_then};
 ghost use Rattle.std.specs.Str.{bytes_eq};
-ghost use Rattle.script_text.specs.Words.{change_of, crash_of, cut, cut_line, give_of, is_crash as is_crash_of, of_numbers, is_number as is_number_word, line_of, number_from, number_of, words_of};
+ghost use Rattle.script_text.specs.Words.{cut, cut_line, of_numbers, is_number as is_number_word, line_of, number_from, number_of, words_of};
 
 use crate::line::Line;
 use std::alloc::{AllocError, Global};
@@ -43,7 +44,7 @@ fn line_of_words(words: &[&[u8]]) -> Option<Line>
 
 /// `give N I`
 fn give(verb: &[u8], item: &[u8], instance: &[u8]) -> Option<Line>
-    ensures { result ≡ option_map cut_line (give_of verb.now item.now instance.now) }
+    ensures { result ≡ option_map cut_line (line_of (verb.now ∷ item.now ∷ instance.now ∷ [])) }
 {
     if !is(verb, b"give") {
         return None;
@@ -56,7 +57,7 @@ fn give(verb: &[u8], item: &[u8], instance: &[u8]) -> Option<Line>
 
 /// `back I at N` and `fail R at N`
 fn change(verb: &[u8], number: &[u8], at: &[u8], item: &[u8]) -> Option<Line>
-    ensures { result ≡ option_map cut_line (change_of verb.now number.now at.now item.now) }
+    ensures { result ≡ option_map cut_line (line_of (verb.now ∷ number.now ∷ at.now ∷ item.now ∷ [])) }
 {
     if !is(at, b"at") {
         None
@@ -91,14 +92,15 @@ fn fail(replica: &[u8], item: &[u8]) -> Option<Line>
 
 /// Whether the words that are no number are those of `crash I at N after M`.
 fn is_crash(verb: &[u8], at: &[u8], after: &[u8]) -> bool
-    ensures { result ≡ is_crash_of verb.now at.now after.now }
+    ensures { result ≡ (bytes_eq verb.now (codes "crash") && bytes_eq at.now (codes "at") && bytes_eq after.now (codes "after")) }
 {
     is(verb, b"crash") && is(at, b"at") && is(after, b"after")
 }
 
 /// `crash I at N after M`, from I, N and M.
 fn crash(instance: &[u8], item: &[u8], steps: &[u8]) -> Option<Line>
-    ensures { result ≡ option_map cut_line (crash_of instance.now item.now steps.now) }
+    ensures { result ≡ option_map cut_line
+        (option_and_then (λ m. of_numbers (λ i n. Line.Crash i n m) instance.now item.now) (number_of steps.now)) }
 {
     Some(Line::Crash {
         instance: short_number(instance)?,
