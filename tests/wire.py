@@ -50,7 +50,8 @@ class Flow:
         self.forged, first = struct.unpack(">II", hashlib.sha256(message).digest()[:8])
         shard = sum(client) % shards
         ports = (1024 + shard + shards * ((first + i) % (64512 // shards)) for i in range(8))
-        self.port = next(p for p in ports if p not in taken)
+        # None where another flow has each of the eight.
+        self.port = next((p for p in ports if p not in taken), None)
         self.client_first, self.server_first = client_first, server_first
         self.sent = self.answered = 1
 
