@@ -1,14 +1,25 @@
-ghost use Rattle.std.specs.Prelude.{◌≡◌, ◌==◌, ◌≤◌, IfSome, length, position};
+ghost use Rattle.std.specs.Prelude.{◌≡◌, ◌==◌, ◌≤◌, ℕ, IfSome, List, length, position};
 ghost use Rattle.std.specs.List.{before_first};
 ghost use Rattle.weighted_pick.specs.Pick.{has_weight as has_weight_in};
 ghost use Rattle.http_head.specs.Parts.{IsHeadOf, IsWithin, part_bytes};
+ghost use Rattle.http_head.specs.Fields.{host_of as host_in, target_of};
 ghost use Rattle.http_head.specs.Reading.{reading};
-ghost use Rattle.rule_table.specs.Found.{AreCookiesOf};
-ghost use Rattle.rule_table.specs.Matching.{applies as applies_to, gives_weight as gives_weight_in, has_path as has_path_of, matched_in, meets_cookie as meets_cookie_of, meets_host as meets_host_of, meets_path as meets_path_of, names_host as names_host_of, place_of};
+ghost use Rattle.rule_table.specs.Forms.{question};
+ghost use Rattle.rule_table.specs.Found.{AreCookiesOf, IsAskedOf, is_named};
+ghost use Rattle.rule_table.specs.Matching.{applies as applies_to, gives_weight as gives_weight_in, matched_in, meets_cookie as meets_cookie_of, meets_host as meets_host_of, meets_path as meets_path_of, place_of, value_names_host};
 
 use crate::cookies::Cookies;
 use crate::types::{Rule, Server, Text};
 use http_head::{HttpHead, Part};
+
+/// What conditions are compared with, cut from the head once for all rules.
+#[derive(Clone, Copy)]
+struct Asked<'a> {
+    /// The Host value up to its first colon, None where there is none or where it is an IPv6 address.
+    host: Option<&'a [u8]>,
+    /// The target up to its query.
+    path: &'a [u8],
+}
 
 /// The number of the first of the rules that the head matches, None exactly where it matches none.
 #[tactic(auto, unfolding(crate::specs::Matching::matched_in))]
@@ -17,9 +28,13 @@ pub fn first_match(rules: &[Rule], bytes: &[u8], head: &HttpHead) -> Option<u16>
     requires head { IsHeadOf bytes.now head.now }
     ensures { result ≡ matched_in rules.now (reading bytes.now) }
 {
+    let asked = Asked {
+        host: host_of(bytes, head),
+        path: path_of(bytes, head),
+    };
     let mut found = None;
     for (number, rule) in rules.iter().enumerate() {
-        if applies(rules, rule, bytes, head, &mut found) {
+        if applies(rules, rule, bytes, head, asked, &mut found) {
             return Some(number as u16);
         }
     }
@@ -68,39 +83,43 @@ fn applies(
     rule: &Rule,
     bytes: &[u8],
     head: &HttpHead,
+    asked: Asked<'_>,
     found: &mut Option<Cookies>,
 ) -> bool
     requires few { length rules.now ≤ 256 }
     requires head { IsHeadOf bytes.now head.now }
+    requires asked { IsAskedOf (reading bytes.now) asked }
     requires found { IfSome found.old (AreCookiesOf rules.now bytes.now) }
     ensures applies { result ≡ applies_to (reading bytes.now) rule.now }
     ensures found { IfSome found.new (AreCookiesOf rules.now bytes.now) }
 {
-    meets_host(&rule.host, bytes, head)
-        && meets_path(&rule.path, bytes, head)
+    meets_host(&rule.host, bytes, asked)
+        && meets_path(&rule.path, bytes, asked)
         && meets_cookie(rules, &rule.cookie, bytes, head, found)
 }
 
 /// Whether the host condition holds, if there is one.
-fn meets_host(condition: &Option<Text>, bytes: &[u8], head: &HttpHead) -> bool
-    requires { IsHeadOf bytes.now head.now }
+fn meets_host(condition: &Option<Text>, bytes: &[u8], asked: Asked<'_>) -> bool
+    requires { IsAskedOf (reading bytes.now) asked }
     ensures { result ≡ meets_host_of condition.now (reading bytes.now) }
 {
-    match (condition, head.host) {
+    let _ = bytes;
+    match (condition, asked.host) {
         (None, _) => true,
         (Some(_), None) => false,
-        (Some(host), Some(value)) => names_host(part(bytes, value), host.as_slice()),
+        (Some(host), Some(name)) => name.eq_ignore_ascii_case(host.as_slice()),
     }
 }
 
 /// Whether the path condition holds, if there is one.
-fn meets_path(condition: &Option<Text>, bytes: &[u8], head: &HttpHead) -> bool
-    requires { IsHeadOf bytes.now head.now }
+fn meets_path(condition: &Option<Text>, bytes: &[u8], asked: Asked<'_>) -> bool
+    requires { IsAskedOf (reading bytes.now) asked }
     ensures { result ≡ meets_path_of condition.now (reading bytes.now) }
 {
+    let _ = bytes;
     match condition {
         None => true,
-        Some(path) => has_path(part(bytes, head.path), path.as_slice()),
+        Some(path) => asked.path.starts_with(path.as_slice()),
     }
 }
 
@@ -132,19 +151,24 @@ fn meets_cookie(
     }
 }
 
-/// Whether the Host value up to its first colon is the host, but for ASCII case. A value that begins with `[`, an IPv6
-/// address, is none.
-fn names_host(value: &[u8], host: &[u8]) -> bool
-    ensures { result ≡ names_host_of host.now value.now }
+/// The Host value up to its first colon. None where there is none, or where it begins with `[` and is an IPv6 address.
+fn host_of<'a>(bytes: &'a [u8], head: &HttpHead) -> Option<&'a [u8]>
+    requires { IsHeadOf bytes.now head.now }
+    ensures { (host : List ℕ) → value_names_host host (host_in (reading bytes.now)) ≡ is_named host result }
 {
-    !matches!(value, [b'[', ..]) && before(value, b':').eq_ignore_ascii_case(host)
+    let value = part(bytes, head.host?);
+    if matches!(value, [b'[', ..]) {
+        return None;
+    }
+    Some(before(value, b':'))
 }
 
-/// Whether the target up to its query begins with the path.
-fn has_path(target: &[u8], path: &[u8]) -> bool
-    ensures { result ≡ has_path_of path.now target.now }
+/// The target up to its query.
+fn path_of<'a>(bytes: &'a [u8], head: &HttpHead) -> &'a [u8]
+    requires { IsHeadOf bytes.now head.now }
+    ensures { result.now ≡ before_first (λ b. b == question) (target_of (reading bytes.now)) }
 {
-    before(target, b'?').starts_with(path)
+    before(part(bytes, head.path), b'?')
 }
 
 /// What stands before the first such byte, or all where there is none.
