@@ -4,7 +4,6 @@ use Rattle.std.specs.Prelude.{ℕ, List, ◌++◌, codes}
 use Rattle.std.specs.List.{flat_map}
 use Rattle.std.specs.Fmt.{decimal}
 use Rattle.common.specs.Text.{hex_digits, end_text}
-use Rattle.flow_id.specs.declared.key.Flow.{Flow}
 use Rattle.ipv4.specs.declared.packet.IpFault.{IpFault}
 use Rattle.ipv4.specs.declared.packet.IpFault.TheVariants as ip
 use Rattle.tcp_segment.specs.declared.segment.TcpFault.{TcpFault}
@@ -37,10 +36,7 @@ why_text TooLong = codes "toolong"
 why_text BadHead = codes "badhead"
 why_text NoRule = codes "norule"
 
--- a space and ADDRESS:PORT of the client of each flow
-abbrev pub owners_text : List Flow → List ℕ
-owners_text flows = flat_map (λ flow. codes " " ++ end_text flow.address flow.port) flows
-
+-- the owners of ports are told by ADDRESS:PORT of the client of each flow
 abbrev pub verdict_text : Verdict → List ℕ
 verdict_text Answered = codes "answered"
 verdict_text (Held end) = codes "held " ++ decimal end
@@ -56,7 +52,7 @@ verdict_text Unknown = codes "unknown"
 verdict_text (OtherNumber n) = codes "othernumber " ++ decimal n
 verdict_text (BadAck n) = codes "badack " ++ decimal n
 verdict_text (OtherOpen n) = codes "otheropen " ++ decimal n
-verdict_text (PortsTaken owners) = codes "portstaken" ++ owners_text owners
+verdict_text (PortsTaken owners) = codes "portstaken" ++ flat_map (λ flow. codes " " ++ end_text flow.address flow.port) owners
 verdict_text Early = codes "early"
 verdict_text (Odd flags) = codes "odd " ++ hex_digits 2 flags
 verdict_text NotOurs = codes "notours"

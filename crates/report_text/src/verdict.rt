@@ -73,9 +73,11 @@ struct OwnersText([Flow; 8]);
 
 impl Display for OwnersText {
     ghost use Rattle.std.specs.Prelude.{Some};
-    ghost use Rattle.report_text.specs.Verdicts.{owners_text};
+    ghost use Rattle.std.specs.Prelude.{◌++◌, codes};
+    ghost use Rattle.std.specs.List.{flat_map};
+    ghost use Rattle.common.specs.Text.{end_text};
 
-    ghost output = { λ t. Some (owners_text t.0) };
+    ghost output = { λ t. Some (flat_map (λ flow. codes " " ++ end_text flow.address flow.port) t.0) };
 
     fn fmt<W: fmt::Write>(&self, f: &mut Formatter<W>) -> fmt::Result {
         for flow in self.0 {
