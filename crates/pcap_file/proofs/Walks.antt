@@ -2,6 +2,7 @@
 use Rattle.std.proofs.Common.{◌≡◌, ◌≤◌, ◌<◌, ℕ, zero, suc, ◌+◌, Bool, true, false, nat_lt, nat_le, cond, List, [], ◌∷◌, length, drop, Option, Some, None, refl, sym, ap, subst, ◌∙◌, inl, inr, arith}
 use Rattle.std.proofs.lemmas.Grind.{common_steps}
 use Rattle.std.proofs.lemmas.Bool.{cases_lt}
+use Rattle.std.specs.Option.{option_map_or}
 use Rattle.common.specs.Faults.{first}
 use Rattle.pcap_file.specs.declared.capture.Link.{Link}
 use Rattle.pcap_file.specs.declared.capture.Frame.{Frame}
@@ -9,7 +10,11 @@ use Rattle.pcap_file.specs.declared.capture.Settings.{Settings}
 use Rattle.pcap_file.specs.declared.capture.PcapFault.{PcapFault}
 use Rattle.pcap_file.specs.declared.capture.PcapFault.TheVariants.{HeaderCut, RecordCut, TooLarge}
 use Rattle.pcap_file.specs.Capture.{number_at, settings_of, header_faults, kept_at, micros_at, record_faults, IsFrame}
-use Rattle.pcap_file.specs.Frames.{Capture, SpellsFrames, SpellsCapture, ended, stopped, before, behind, frame_from, frames_from, left_of, opened_with}
+use Rattle.pcap_file.specs.Frames.{Capture, SpellsFrames, SpellsCapture, ended, stopped, before, frame_from, frames_from, left_of, opened_with}
+
+-- what begins at a place: a fault, or a frame, behind which stands the rest
+abbrev behind : Option PcapFault → Frame → Capture → Capture
+behind o f rest = option_map_or stopped o (before f rest)
 
 le-true : (a b : ℕ) → a ≤ b → nat_le a b ≡ true
 le-true a b h = grind (arith, common_steps)

@@ -22,34 +22,27 @@ magic_of bytes = field 0 4 bytes
 abbrev pub is_little : List ℕ → Bool
 is_little bytes = magic_of bytes == 0xd4c3_b2a1 || magic_of bytes == 0x4d3c_b2a1
 
--- the magic numbers of fractions in nanoseconds
-abbrev pub is_nano : List ℕ → Bool
-is_nano bytes = magic_of bytes == 0xa1b2_3c4d || magic_of bytes == 0x4d3c_b2a1
-
-abbrev pub is_magic : List ℕ → Bool
-is_magic bytes = magic_of bytes == 0xa1b2_c3d4 || magic_of bytes == 0xa1b2_3c4d || is_little bytes
-
-abbrev pub major_of : List ℕ → ℕ
-major_of bytes = number_at (is_little bytes) 4 2 bytes
-
-abbrev pub minor_of : List ℕ → ℕ
-minor_of bytes = number_at (is_little bytes) 6 2 bytes
-
 abbrev pub link_type : List ℕ → ℕ
 link_type bytes = number_at (is_little bytes) 20 4 bytes
 
 -- the faults of the file header in the order in which they are looked for, each where it holds
 abbrev pub header_faults : List ℕ → List (Bool × PcapFault)
 header_faults bytes =
+    let major = number_at (is_little bytes) 4 2 bytes in
+    let minor = number_at (is_little bytes) 6 2 bytes in
     (nat_lt (length bytes) 24, HeaderCut (length bytes))
-    ∷ (not (is_magic bytes), Magic (magic_of bytes))
-    ∷ (not (major_of bytes == 2 && minor_of bytes == 4), Version (major_of bytes) (minor_of bytes))
+    ∷ (not (magic_of bytes == 0xa1b2_c3d4 || magic_of bytes == 0xa1b2_3c4d || is_little bytes), Magic (magic_of bytes))
+    ∷ (not (major == 2 && minor == 4), Version major minor)
     ∷ (not (link_type bytes == 1 || link_type bytes == 101), UnknownLink (link_type bytes))
     ∷ []
 
--- what a file header without a fault says
+-- what a file header without a fault says; two of the magic numbers stand for fractions in nanoseconds
 abbrev pub settings_of : List ℕ → Settings
-settings_of bytes = record { little = is_little bytes; nano = is_nano bytes; link = if link_type bytes == 1 then Ethernet else Raw }
+settings_of bytes = record {
+  little = is_little bytes;
+  nano = magic_of bytes == 0xa1b2_3c4d || magic_of bytes == 0x4d3c_b2a1;
+  link = if link_type bytes == 1 then Ethernet else Raw;
+}
 
 -- the kept length of the record whose head begins at this place
 abbrev pub kept_at : Settings → ℕ → List ℕ → ℕ
@@ -79,3 +72,10 @@ pub record IsFrame (s : Settings) (at : ℕ) (bytes : List ℕ) (f : Frame) : Ty
   pub kept : f.kept ≡ kept_at s at bytes
   pub original : f.original ≡ number_at s.little (at + 12) 4 bytes
   pub link : f.link ≡ s.link
+
+-- ---- words of proofs
+abbrev pub major_of : List ℕ → ℕ
+major_of bytes = number_at (is_little bytes) 4 2 bytes
+
+abbrev pub minor_of : List ℕ → ℕ
+minor_of bytes = number_at (is_little bytes) 6 2 bytes
