@@ -7,14 +7,13 @@ use Rattle.seen_lock.specs.declared.object.Entry.{Entry}
 use Rattle.bench.specs.Blocks.{crash_after}
 use Rattle.bench.specs.Histories.{opening}
 use Rattle.bench.specs.Incoming.{incoming}
-use Rattle.bench.specs.Prepared.{work_of, prepared_by, prepared, prepared_of, IsAimedWork}
+use Rattle.bench.specs.Prepared.{work_of, prepared_by, prepared, prepared_of}
 use Rattle.bench.specs.declared.call.Call.{Call}
 use Rattle.bench.specs.declared.call.Call.TheVariants.{Take, Step, Crash, Fail}
 use Rattle.bench.specs.declared.input.inputs.Inputs.{Inputs}
 use Rattle.bench.specs.declared.input.line.Line.{Line}
 use Rattle.bench.specs.declared.input.prepared.Prepared.{Prepared}
 use Rattle.bench.specs.declared.input.prepared.Prepared.TheVariants.{Ended, Work}
-use Rattle.bench.proofs.Prepared.{aimed_work}
 use Rattle.job_core.specs.Aims.{aimed}
 use Rattle.job_core.specs.declared.aim.Aim.{Aim}
 use Rattle.job_core.specs.declared.aim.Aim.TheVariants as aim
@@ -26,7 +25,7 @@ use Rattle.script_text.specs.Laws.{AssignedIsLiving}
 use Rattle.tcp_segment.specs.declared.segment.Segment.{Segment}
 use Rattle.run_threads.specs.Answered.{Answer, answered}
 use Rattle.run_threads.specs.Due.{is_due}
-use Rattle.run_threads.specs.Items.{IsOwn, IsDone, instance_of, owner_by, owner}
+use Rattle.run_threads.specs.Items.{IsOwn, IsDone, owner}
 use Rattle.run_threads.specs.Laws.{IsNamed}
 use Rattle.run_threads.specs.Outs.{IsTableReply}
 use Rattle.run_threads.specs.Run.{told_by, IsThreadRun}

@@ -20,5 +20,6 @@ pub use laws::{calls_are_named, journal_determines, verdicts_are_caused};
 pub use object::BenchObject;
 pub use outcome::Outcome;
 pub use run::{RunResult, run_all};
+
 #[cfg(test)]
 mod tests;

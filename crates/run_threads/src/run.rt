@@ -292,9 +292,7 @@ fn run_locked<G: Gate + Sync, R: Threads + Wait + Sync>(
     let due = Due::of(alloc, inputs.script.lines(), inputs.records)?;
     let (locks, mut first) = open_locks(alloc, &inputs.setup)?;
     let crews = crews_of(alloc, &inputs.setup, &locks, &mut first)?;
-    let backs = run_workers(
-        rt, alloc, inputs, frames, owners, &due, &locks, crews, gate,
-    )?;
+    let backs = run_workers(rt, alloc, inputs, frames, owners, &due, &locks, crews, gate)?;
     let told = take_in(alloc, inputs, frames, &locks, &mut first, backs)?;
     let histories = close_all(alloc, &inputs.setup, locks, first)?;
     Ok((told, histories))

@@ -5,8 +5,8 @@ ghost use Rattle.pcap_file.specs.Frames.{capture_of, left_of};
 ghost use Rattle.run_threads.specs.Run.{IsThreadRun};
 
 use crate::{Gate, OpenGate, RunResult, run_all};
-use bench::{Bench, Call, Reply, apply};
 use bench::input::{Inputs, TRACE_BYTES, TRACE_RECORDS};
+use bench::{Bench, Call, Reply, apply};
 use flow_id::{Flow, candidate, marks_of};
 use job_core::Verdict;
 use journal_text::journal;
@@ -19,6 +19,7 @@ use std::alloc::{AllocError, Global};
 use std::sync::Wait;
 use std::sync::atomic::{AtomicU64, Ordering};
 use std::test::Fail;
+use std::thread;
 use std::thread::Threads;
 use tcp_segment::{ACK, Bytes, FIN, Head, Options, PSH, SYN, Segment, write};
 
@@ -425,6 +426,8 @@ impl Gate for Holding {
                 self.met.store(1, Ordering::SeqCst);
                 return;
             }
+            // The other worker may wait for a processor.
+            thread::yield_now();
         }
     }
 
