@@ -2,6 +2,7 @@ pub mod Growing
 pub mod Longer
 pub mod LongerTexts
 pub mod Named
+pub mod Numbers
 pub mod Outcomes
 pub mod Outputs
 pub mod Rising

@@ -1,4 +1,6 @@
 pub mod Commands
+pub mod DriveCommand
+pub mod DriveWords
 pub mod DumpCommand
 pub mod Dumps
 pub mod Ends

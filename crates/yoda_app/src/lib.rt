@@ -2,18 +2,22 @@
 //!
 //! A command is judged by the words behind the program's name. It reads its inputs, judges them, makes its texts, and
 //! writes its outputs; the answer is the exit status, and for each status other than 0 a line goes to standard error.
-//! `specs/Commands.antt` says for all commands what each status means and what it leaves; `specs/Plain.antt` and
-//! `specs/DumpCommand.antt` say what the two commands judge and write.
+//! `specs/Commands.antt` says for all commands what each status means and what it leaves; `specs/Plain.antt`,
+//! `specs/DumpCommand.antt` and `specs/DriveCommand.antt` say what each command judges and writes.
 #![tactic(auto)]
 
 ghost use Rattle.std.specs.Prelude.{◌≡◌, ◌||◌, true};
 ghost use Rattle.shelf.specs.Changes.{change};
 ghost use Rattle.shelf.specs.Shelf.{NoneFell, StaysSure};
 ghost use Rattle.yoda_app.specs.Commands.{IsOutcome, IsUsage};
+ghost use Rattle.yoda_app.specs.DriveCommand.{drive_command};
+ghost use Rattle.yoda_app.specs.DriveWords.{are_drive};
 ghost use Rattle.yoda_app.specs.DumpCommand.{dump_command};
 ghost use Rattle.yoda_app.specs.Plain.{plain_command};
 ghost use Rattle.yoda_app.specs.Words.{texts, are_plain, are_dump};
 
+mod drive;
+mod drive_words;
 mod dump;
 mod dump_line;
 mod dump_text;
@@ -28,6 +32,8 @@ mod texts;
 mod words;
 mod writing;
 
+use crate::drive::drive;
+use crate::drive_words::drive_numbers;
 use crate::dump::dump;
 pub use crate::ending::refuse_memory;
 use crate::ending::{finish, refuse_words};
@@ -73,16 +79,39 @@ pub fn yoda_dump<H: Shelf>(alloc: Global, words: &[String], shelf: &mut H) -> u8
     }
 }
 
+/// The command `drive`, by the words behind the program's name: `drive FLOWS BYTES NUMBER`. It answers the exit status. It
+/// always returns, and it answers 2 for another command's words.
+pub fn yoda_drive<H: Shelf>(alloc: Global, words: &[String], shelf: &mut H) -> u8
+    ensures usage { IsUsage (are_drive (texts words.now)) (change H.content H.faults H.sure shelf.old shelf.new) result }
+    ensures outcome { are_drive (texts words.now) ≡ true
+        → IsOutcome (drive_command (texts words.now)) (change H.content H.faults H.sure shelf.old shelf.new) result }
+    ensures counts { NoneFell (H.faults shelf.old) (H.faults shelf.new) }
+    ensures stays { StaysSure (H.sure shelf.old) (H.sure shelf.new) }
+{
+    match drive_numbers(words) {
+        Some(numbers) => {
+            let driven = drive(alloc, shelf, numbers);
+            finish(shelf, &driven)
+        }
+        None => refuse_words(shelf),
+    }
+}
+
 /// Any command, by the words behind the program's name. It answers the exit status, by the command's own call.
 pub fn yoda<H: Shelf>(alloc: Global, words: &[String], shelf: &mut H) -> u8
-    ensures usage { IsUsage (are_plain (texts words.now) || are_dump (texts words.now)) (change H.content H.faults H.sure shelf.old shelf.new) result }
+    ensures usage { IsUsage (are_plain (texts words.now) || (are_dump (texts words.now) || are_drive (texts words.now))) (change H.content H.faults H.sure shelf.old shelf.new) result }
     ensures plain { are_plain (texts words.now) ≡ true
         → IsOutcome (plain_command (texts words.now)) (change H.content H.faults H.sure shelf.old shelf.new) result }
     ensures dump { are_dump (texts words.now) ≡ true
         → IsOutcome (dump_command (texts words.now)) (change H.content H.faults H.sure shelf.old shelf.new) result }
+    ensures drive { are_drive (texts words.now) ≡ true
+        → IsOutcome (drive_command (texts words.now)) (change H.content H.faults H.sure shelf.old shelf.new) result }
     ensures counts { NoneFell (H.faults shelf.old) (H.faults shelf.new) }
     ensures stays { StaysSure (H.sure shelf.old) (H.sure shelf.new) }
 {
+    if drive_numbers(words).is_some() {
+        return yoda_drive(alloc, words, shelf);
+    }
     match dump_name(words) {
         Some(_) => yoda_dump(alloc, words, shelf),
         None => yoda_plain(alloc, words, shelf),

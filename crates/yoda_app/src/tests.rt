@@ -4,6 +4,7 @@ use shelf::MemoryShelf;
 use std::test::Fail;
 use tcp_segment::{ACK, Bytes, Head, Options, PSH, SYN as OPEN, Segment, write};
 
+mod generated;
 mod refusals;
 mod runs;
 mod scripts;

@@ -66,7 +66,8 @@ fn all_differ(names: &[String]) -> bool
     }
 }
 
-fn word_at(words: &[String], at: usize) -> &str
+/// The word at this place.
+pub fn word_at(words: &[String], at: usize) -> &str
     requires { at < length words.now }
     ensures { result.now ≡ word at (texts words.now) }
 {
