@@ -1,6 +1,6 @@
-use Rattle.std.proofs.Common.{◌<◌, sym, ◌∙◌, subst}
+use Rattle.std.proofs.Common.{◌<◌, ◌%◌, ap, sym, ◌∙◌, subst}
 use Rattle.bench.specs.Prepared.{prepared_of}
-use Rattle.run_threads.proofs.Owners.{work_owner, owner_there}
+use Rattle.run_threads.proofs.Owners.{work_owner, ended_owner, owner_there}
 use Rattle.run_threads.proofs.owner.owner.Goals as goal
 
 pub returns-in-Work-clause-there : goal.returns-in-Work-clause-there
@@ -10,3 +10,14 @@ returns-in-Work-clause-there c =
     subst (λ k. k < inputs.setup.instances)
     (sym (work_owner inputs.setup c.args.item (prepared_of inputs c.args.item frame) c.in-Work.aim c.in-Work.instance c.in-Work.shard (sym c.in-Work.is ∙ c.judge.ensures)))
     (owner_there c.assignments.ensures inputs c.known.ensures c.args.item frame)
+
+pub returns-in-Work-clause-which : goal.returns-in-Work-clause-which
+returns-in-Work-clause-which c =
+    work_owner c.args.inputs.now.setup c.args.item (prepared_of c.args.inputs.now c.args.item c.args.frame.now)
+    c.in-Work.aim c.in-Work.instance c.in-Work.shard (sym c.in-Work.is ∙ c.judge.ensures)
+
+pub returns-in-Ended-clause-which : goal.returns-in-Ended-clause-which
+returns-in-Ended-clause-which c =
+    ap (λ n. c.args.item % n) c.instances.ensures
+    ∙ ended_owner c.args.inputs.now.setup c.args.item (prepared_of c.args.inputs.now c.args.item c.args.frame.now)
+    c.in-Ended.field-0 (sym c.in-Ended.is ∙ c.judge.ensures)
