@@ -19,7 +19,7 @@ pub use gate::{Gate, OpenGate};
 pub use laws::{calls_are_named, journal_determines, verdicts_are_caused};
 pub use object::BenchObject;
 pub use outcome::Outcome;
-pub use run::{RunResult, run_all};
+pub use run::{RunResult, frames_of, run_all};
 
 #[cfg(test)]
 mod tests;

@@ -65,8 +65,8 @@ fn frames_from(alloc: Global, inputs: &Inputs, mut reader: Reader) -> Result<Vec
     Ok(frames)
 }
 
-/// The frames of the trace.
-fn frames_of(alloc: Global, inputs: &Inputs) -> Result<Vec<Frame>, AllocError>
+/// The frames of the trace, in their order. The one error is want of memory.
+pub fn frames_of(alloc: Global, inputs: &Inputs) -> Result<Vec<Frame>, AllocError>
     requires { IsInputs inputs.now }
     ensures frames { IfOk result (λ frames. frames.items ≡ (capture_of inputs.now.trace).frames) }
     ensures inside { IfOk result (λ frames. All (λ f. f.at + f.kept ≤ length inputs.now.trace) frames.items) }
