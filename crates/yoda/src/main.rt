@@ -18,10 +18,10 @@ fn words<R: Env + AllocGlobal>(rt: &R) -> io::Result<Vec<String>> {
 fn main(rt: HostRuntime) -> ExitCode {
     let mut shelf = FileShelf::new(&rt, rt.stdout(), rt.stderr());
     let status = match words(&rt) {
-        Ok(words) => yoda(rt.alloc(), &words, &mut shelf),
+        Ok(words) => yoda(&rt, rt.alloc(), &words, &mut shelf),
         Err(error) if error.kind() == ErrorKind::OutOfMemory => refuse_memory(&mut shelf),
         // A word that is no text is a faulty command line.
-        Err(_) => yoda(rt.alloc(), &[], &mut shelf),
+        Err(_) => yoda(&rt, rt.alloc(), &[], &mut shelf),
     };
     ExitCode::from(status)
 }

@@ -3,7 +3,10 @@ pub mod Longer
 pub mod LongerTexts
 pub mod Named
 pub mod Numbers
+pub mod Onward
 pub mod Outcomes
 pub mod Outputs
 pub mod Rising
+pub mod RunNamed
+pub mod ScriptRead
 pub mod Stops

@@ -14,7 +14,7 @@ list_any-texts p [] = refl
 list_any-texts p (w ∷ ws) = ap (λ b. p (string_bytes w) || b) (list_any-texts p ws)
 
 -- a name is its own
-bytes_eq-same : (n : List ℕ) → bytes_eq n n ≡ true
+pub bytes_eq-same : (n : List ℕ) → bytes_eq n n ≡ true
 bytes_eq-same n = (bytes_eq-Decides n n).1 refl
 
 last_three : (a b c d e f g h : Bool) → (a && (b && (c && (d && (e && (f && (g && h))))))) ≡ true → (f ≡ true) × (g ≡ true) × (h ≡ true)
@@ -26,10 +26,10 @@ pub record AreOutputs (first second : List ℕ) : Type 0 where
   pub out : first ≢ codes "!"
   pub report : second ≢ codes "!"
 
-not_error : (n : List ℕ) → is_file_name n ≡ true → n ≢ codes "!"
+pub not_error : (n : List ℕ) → is_file_name n ≡ true → n ≢ codes "!"
 not_error n h same = let f : is_file_name (codes "!") ≡ true = ap is_file_name (sym same) ∙ h in cc
 
-not_error_report : (n : List ℕ) → is_report_name n ≡ true → n ≢ codes "!"
+pub not_error_report : (n : List ℕ) → is_report_name n ≡ true → n ≢ codes "!"
 not_error_report n h same = let f : is_report_name (codes "!") ≡ true = ap is_report_name (sym same) ∙ h in cc
 
 last_differ : (r t s o p : List ℕ) → all_differ (r ∷ t ∷ s ∷ o ∷ p ∷ []) ≡ true → o ≢ p

@@ -54,7 +54,7 @@ kept_since : (names : List (List ℕ)) (old mid new : Contents) → SameContents
 kept_since [] old mid new same all = tt
 kept_since (n ∷ names) old mid new same all = (all.0 ∙ same n, kept_since names old mid new same all.1)
 
-part_since : (name text : List ℕ) (old mid new : Option (List ℕ)) → mid ≡ old → HoldsPart name mid new text → HoldsPart name old new text
+pub part_since : (name text : List ℕ) (old mid new : Option (List ℕ)) → mid ≡ old → HoldsPart name mid new text → HoldsPart name old new text
 part_since name text old mid new same part =
     let P : Option (List ℕ) → Type 0 = λ o. HoldsPart name o new text in
     subst P same part

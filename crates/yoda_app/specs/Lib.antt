@@ -9,6 +9,8 @@ pub mod Outs
 pub mod Plain
 pub mod Refusals
 pub mod Reports
+pub mod RunCommand
+pub mod RunWords
 pub mod Texts
 pub mod Words
 pub mod Written

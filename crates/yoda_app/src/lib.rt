@@ -3,7 +3,7 @@
 //! A command is judged by the words behind the program's name. It reads its inputs, judges them, makes its texts, and
 //! writes its outputs; the answer is the exit status, and for each status other than 0 a line goes to standard error.
 //! `specs/Commands.antt` says for all commands what each status means and what it leaves; `specs/Plain.antt`,
-//! `specs/DumpCommand.antt` and `specs/DriveCommand.antt` say what each command judges and writes.
+//! `specs/RunCommand.antt`, `specs/DriveCommand.antt` and `specs/DumpCommand.antt` say what each command judges and writes.
 #![tactic(auto)]
 
 ghost use Rattle.std.specs.Prelude.{◌≡◌, ◌||◌, true};
@@ -14,6 +14,8 @@ ghost use Rattle.yoda_app.specs.DriveCommand.{drive_command};
 ghost use Rattle.yoda_app.specs.DriveWords.{are_drive};
 ghost use Rattle.yoda_app.specs.DumpCommand.{dump_command};
 ghost use Rattle.yoda_app.specs.Plain.{plain_command};
+ghost use Rattle.yoda_app.specs.RunCommand.{run_command};
+ghost use Rattle.yoda_app.specs.RunWords.{are_run};
 ghost use Rattle.yoda_app.specs.Words.{texts, are_plain, are_dump};
 
 mod drive;
@@ -28,6 +30,9 @@ mod output;
 mod outs_text;
 mod plain;
 mod report;
+mod run;
+mod run_texts;
+mod run_words;
 mod texts;
 mod words;
 mod writing;
@@ -39,9 +44,13 @@ pub use crate::ending::refuse_memory;
 use crate::ending::{finish, refuse_words};
 pub use crate::longer_run::longer_texts;
 use crate::plain::plain;
+use crate::run::run;
+use crate::run_words::run_names;
 use crate::words::{dump_name, plain_names};
 use shelf::Shelf;
 use std::alloc::Global;
+use std::sync::Wait;
+use std::thread::Threads;
 
 /// The command `plain`, by the words behind the program's name: `plain RULES TRACE SCRIPT OUT REPORT`. It answers the
 /// exit status. It always returns, and it answers 2 for another command's words.
@@ -97,24 +106,57 @@ pub fn yoda_drive<H: Shelf>(alloc: Global, words: &[String], shelf: &mut H) -> u
     }
 }
 
-/// Any command, by the words behind the program's name. It answers the exit status, by the command's own call.
-pub fn yoda<H: Shelf>(alloc: Global, words: &[String], shelf: &mut H) -> u8
-    ensures usage { IsUsage (are_plain (texts words.now) || (are_dump (texts words.now) || are_drive (texts words.now))) (change H.content H.faults H.sure shelf.old shelf.new) result }
-    ensures plain { are_plain (texts words.now) ≡ true
-        → IsOutcome (plain_command (texts words.now)) (change H.content H.faults H.sure shelf.old shelf.new) result }
-    ensures dump { are_dump (texts words.now) ≡ true
-        → IsOutcome (dump_command (texts words.now)) (change H.content H.faults H.sure shelf.old shelf.new) result }
-    ensures drive { are_drive (texts words.now) ≡ true
-        → IsOutcome (drive_command (texts words.now)) (change H.content H.faults H.sure shelf.old shelf.new) result }
+// The command `run`, by the words behind the program's name: `run RULES TRACE SCRIPT OUT REPORT JOURNAL`. It answers the
+// exit status, and 2 for another command's words. It may wait, for threads.
+fn yoda_run<R: Threads + Wait + Sync, H: Shelf>(
+    rt: &R,
+    alloc: Global,
+    words: &[String],
+    shelf: &mut H,
+) -> u8
+    ensures usage { IsUsage (are_run (texts words.now)) (change H.content H.faults H.sure shelf.old shelf.new) result }
+    ensures outcome { are_run (texts words.now) ≡ true
+        → IsOutcome (run_command (texts words.now)) (change H.content H.faults H.sure shelf.old shelf.new) result }
     ensures counts { NoneFell (H.faults shelf.old) (H.faults shelf.new) }
     ensures stays { StaysSure (H.sure shelf.old) (H.sure shelf.new) }
 {
-    if drive_numbers(words).is_some() {
-        return yoda_drive(alloc, words, shelf);
+    match run_names(words) {
+        Some(names) => {
+            let done = run(rt, alloc, shelf, &names);
+            finish(shelf, &done)
+        }
+        None => refuse_words(shelf),
     }
-    match dump_name(words) {
-        Some(_) => yoda_dump(alloc, words, shelf),
-        None => yoda_plain(alloc, words, shelf),
+}
+
+/// Any command, by the words behind the program's name. It answers the exit status, by the command's own call. For `run` it
+/// may wait, for threads.
+pub fn yoda<R: Threads + Wait + Sync, H: Shelf>(
+    rt: &R,
+    alloc: Global,
+    words: &[String],
+    shelf: &mut H,
+) -> u8
+    ensures usage { IsUsage (are_plain (texts words.now) || (are_run (texts words.now) || (are_drive (texts words.now) || are_dump (texts words.now)))) (change H.content H.faults H.sure shelf.old shelf.new) result }
+    ensures plain { are_plain (texts words.now) ≡ true
+        → IsOutcome (plain_command (texts words.now)) (change H.content H.faults H.sure shelf.old shelf.new) result }
+    ensures run { are_run (texts words.now) ≡ true
+        → IsOutcome (run_command (texts words.now)) (change H.content H.faults H.sure shelf.old shelf.new) result }
+    ensures drive { are_drive (texts words.now) ≡ true
+        → IsOutcome (drive_command (texts words.now)) (change H.content H.faults H.sure shelf.old shelf.new) result }
+    ensures dump { are_dump (texts words.now) ≡ true
+        → IsOutcome (dump_command (texts words.now)) (change H.content H.faults H.sure shelf.old shelf.new) result }
+    ensures counts { NoneFell (H.faults shelf.old) (H.faults shelf.new) }
+    ensures stays { StaysSure (H.sure shelf.old) (H.sure shelf.new) }
+{
+    if run_names(words).is_some() {
+        yoda_run(rt, alloc, words, shelf)
+    } else if drive_numbers(words).is_some() {
+        yoda_drive(alloc, words, shelf)
+    } else if dump_name(words).is_some() {
+        yoda_dump(alloc, words, shelf)
+    } else {
+        yoda_plain(alloc, words, shelf)
     }
 }
 

@@ -19,9 +19,9 @@ pub fn begin_outs(alloc: Global, room: usize) -> Result<Vec<u8>, AllocError>
     Ok(out)
 }
 
-// Adds a record of the segment's packet, which has the time of this frame.
+/// Adds a record of the segment's packet, which has the time of this frame. The one error is want of memory.
 #[tactic(auto, using(tcp_segment::proofs::Again::packet_lengths))]
-fn add_packet(out: &mut Vec<u8>, frame: &Frame, segment: &Segment) -> Result<(), AllocError>
+pub fn add_packet(out: &mut Vec<u8>, frame: &Frame, segment: &Segment) -> Result<(), AllocError>
     requires { IsShort segment.now }
     ensures { OnOk result (out.new.items ≡ out.old.items ++ record_bytes frame.now.seconds frame.now.micros (packet_bytes segment.now)) }
 {

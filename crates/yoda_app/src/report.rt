@@ -8,6 +8,9 @@ use report_text::VerdictText;
 use std::alloc::AllocError;
 use std::fmt::Write;
 
+/// Room for a line of a report; most are shorter.
+pub const LINE_BYTES: usize = 24;
+
 /// Adds the line of the record with this number. The one error is want of memory.
 pub fn add_line(report: &mut String, number: u32, line: &Line) -> Result<(), AllocError>
     ensures { OnOk result (string_bytes report.new ≡ string_bytes report.old ++ line_text number line.now.instance line.now.verdict) }

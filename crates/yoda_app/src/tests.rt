@@ -8,6 +8,7 @@ mod generated;
 mod refusals;
 mod runs;
 mod scripts;
+mod threads;
 
 /// Two servers. The shop's cart goes to the first, the testers go to the second, and the rest of the shop to both.
 const RULES: &str = r#"instances = 2
@@ -187,17 +188,28 @@ fn text_of<'a>(shelf: &'a MemoryShelf, name: &str) -> Result<&'a str, Fail> {
 }
 
 /// The status of a command, and what it says on standard error behind the program's name.
-fn ending_of(alloc: Global, words: &str, shelf: &mut MemoryShelf) -> Result<String, Fail> {
-    let status = yoda(alloc, &words_of(alloc, words)?, shelf);
+fn ending_of<R: Threads + Wait + Sync>(
+    rt: &R,
+    alloc: Global,
+    words: &str,
+    shelf: &mut MemoryShelf,
+) -> Result<String, Fail> {
+    let status = yoda(rt, alloc, &words_of(alloc, words)?, shelf);
     let line = text_of(shelf, "!")?;
     let said = line.strip_prefix("yoda: ").unwrap_or(line);
     Ok(format!(in alloc; "{status} {said}")?)
 }
 
 /// What a command that is done leaves under a name.
-fn left_of(alloc: Global, words: &str, trace: &[u8], name: &str) -> Result<Vec<u8>, Fail> {
+fn left_of<R: Threads + Wait + Sync>(
+    rt: &R,
+    alloc: Global,
+    words: &str,
+    trace: &[u8],
+    name: &str,
+) -> Result<Vec<u8>, Fail> {
     let mut shelf = shelf_of(alloc, RULES.as_bytes(), trace, b"", &[])?;
-    if yoda(alloc, &words_of(alloc, words)?, &mut shelf) != 0 {
+    if yoda(rt, alloc, &words_of(alloc, words)?, &mut shelf) != 0 {
         return Err("not done".into());
     }
     Ok(shelf.bytes(name).unwrap_or(&[]).to_vec(alloc)?)
@@ -247,12 +259,17 @@ fn trace_of(alloc: Global, segments: &[Sent<'_>]) -> Result<Vec<u8>, Fail> {
 }
 
 /// The report of a capture under a script, and the dump of what is sent for it.
-fn outcome_of(alloc: Global, trace: &[u8], script: &str) -> Result<(Vec<u8>, Vec<u8>), Fail> {
+fn outcome_of<R: Threads + Wait + Sync>(
+    rt: &R,
+    alloc: Global,
+    trace: &[u8],
+    script: &str,
+) -> Result<(Vec<u8>, Vec<u8>), Fail> {
     let mut shelf = shelf_of(alloc, RULES.as_bytes(), trace, script.as_bytes(), &[])?;
-    if yoda(alloc, &words_of(alloc, PLAIN)?, &mut shelf) != 0 {
+    if yoda(rt, alloc, &words_of(alloc, PLAIN)?, &mut shelf) != 0 {
         return Err("not done".into());
     }
     let report = shelf.bytes("report.txt").unwrap_or(&[]).to_vec(alloc)?;
     let out = shelf.bytes("out.pcap").unwrap_or(&[]);
-    Ok((report, left_of(alloc, DUMP, out, "-")?))
+    Ok((report, left_of(rt, alloc, DUMP, out, "-")?))
 }

@@ -8,7 +8,7 @@ ghost use Rattle.yoda_app.specs.Plain.{IsPlain};
 ghost use Rattle.yoda_app.specs.Texts.{AddsRun};
 
 use crate::outs_text::{add_outs, begin_outs};
-use crate::report::{add_end, add_line};
+use crate::report::{LINE_BYTES, add_end, add_line};
 use pcap_file::Reader;
 use plain_run::{Inputs, Run, plain_laws};
 use std::alloc::{AllocError, Global};
@@ -21,9 +21,6 @@ pub struct Texts {
     pub out: Vec<u8>,
     pub report: String,
 }
-
-// Room for a line of a report; most are shorter.
-const LINE_BYTES: usize = 24;
 
 // The texts before the first record.
 fn begin_texts(alloc: Global, inputs: &Inputs) -> Result<Texts, AllocError>

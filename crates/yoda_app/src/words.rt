@@ -39,13 +39,15 @@ pub fn input_names(alloc: Global, names: &PlainNames<'_>) -> Result<Names, Alloc
     })
 }
 
-fn is_file_name(name: &str) -> bool
+/// Whether a file can have this name.
+pub fn is_file_name(name: &str) -> bool
     ensures { result ≡ is_file_name name.now }
 {
     !(name.is_empty() || name == "-" || name == "!")
 }
 
-fn is_report_name(name: &str) -> bool
+/// Whether the report can have this name.
+pub fn is_report_name(name: &str) -> bool
     ensures { result ≡ is_report_name name.now }
 {
     name == "-" || is_file_name(name)
@@ -57,7 +59,8 @@ fn has(names: &[String], name: &str) -> bool
     names.iter().any(|other| other.as_str() == name)
 }
 
-fn all_differ(names: &[String]) -> bool
+/// Whether no name stands there twice.
+pub fn all_differ(names: &[String]) -> bool
     ensures { result ≡ all_differ (texts names.now) }
 {
     match names.split_first() {

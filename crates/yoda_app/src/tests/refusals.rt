@@ -5,9 +5,12 @@ fn words_and_calls_that_fail_end_a_command(rt: HostRuntime) -> Result<(), Fail> 
     let alloc = rt.alloc();
     let usage =
         "2 usage: plain RULES TRACE SCRIPT OUT REPORT, run RULES TRACE SCRIPT OUT REPORT JOURNAL, drive FLOWS BYTES NUMBER, dump TRACE\n";
-    let rows: [(&str, &[u64], &str); 8] = [
+    let rows: [(&str, &[u64], &str); 11] = [
         ("plain r t s o", &[], usage),
-        ("run r t s o p j", &[], usage),
+        ("run r t s o p", &[], usage),
+        ("run r t s o p -", &[], usage),
+        ("run r t s o p r", &[], usage),
+        ("run r.toml no.pcap s o p j", &[], "3 read fault: no.pcap\n"),
         ("plain r t s ! p", &[], usage),
         ("plain r.toml t.pcap s.txt out.pcap out.pcap", &[], usage),
         (PLAIN, &[0], "3 read fault: r.toml\n"),
@@ -18,7 +21,7 @@ fn words_and_calls_that_fail_end_a_command(rt: HostRuntime) -> Result<(), Fail> 
     for (words, fails, end) in rows {
         let trace = capture_of(alloc, 0, &SYN)?;
         let mut shelf = shelf_of(alloc, RULES.as_bytes(), &trace, b"", fails)?;
-        assert_eq!(rt; ending_of(alloc, words, &mut shelf)?.as_str(), end);
+        assert_eq!(rt; ending_of(&rt, alloc, words, &mut shelf)?.as_str(), end);
         assert_eq!(rt; shelf.bytes("out.pcap"), None);
     }
     Ok(())
@@ -76,7 +79,7 @@ fn refused_inputs_are_judged_in_order(rt: HostRuntime) -> Result<(), Fail> {
             script.as_bytes(),
             &[],
         )?;
-        assert_eq!(rt; ending_of(alloc, PLAIN, &mut shelf)?.as_str(), end);
+        assert_eq!(rt; ending_of(&rt, alloc, PLAIN, &mut shelf)?.as_str(), end);
     }
     Ok(())
 }
@@ -98,7 +101,7 @@ fn a_refused_trace_is_named(rt: HostRuntime) -> Result<(), Fail> {
     for (trace, fault) in rows {
         let mut shelf = shelf_of(alloc, RULES.as_bytes(), &trace, b"", &[])?;
         let end = format!(in alloc; "5 trace refused: {fault}\n")?;
-        assert_eq!(rt; ending_of(alloc, DUMP, &mut shelf)?, end);
+        assert_eq!(rt; ending_of(&rt, alloc, DUMP, &mut shelf)?, end);
     }
     Ok(())
 }
@@ -115,7 +118,7 @@ fn a_write_fault_leaves_the_beginning_of_the_outputs(rt: HostRuntime) -> Result<
     ];
     for (call, out, report, end) in rows {
         let mut shelf = shelf_of(alloc, RULES.as_bytes(), &trace, b"", &[call])?;
-        assert_eq!(rt; ending_of(alloc, PLAIN, &mut shelf)?.as_str(), end);
+        assert_eq!(rt; ending_of(&rt, alloc, PLAIN, &mut shelf)?.as_str(), end);
         assert_eq!(rt; shelf.bytes("out.pcap").map(|bytes| bytes.len()), out);
         assert_eq!(rt; shelf.bytes("report.txt").map(|bytes| bytes.len()), report);
     }
@@ -169,7 +172,7 @@ fn inputs_above_their_limits_are_refused(rt: HostRuntime) -> Result<(), Fail> {
     ];
     for (words, rules, trace, script, end) in rows {
         let mut shelf = shelf_of(alloc, rules, trace, script, &[])?;
-        assert_eq!(rt; ending_of(alloc, words, &mut shelf)?.as_str(), end);
+        assert_eq!(rt; ending_of(&rt, alloc, words, &mut shelf)?.as_str(), end);
     }
     Ok(())
 }
@@ -179,7 +182,7 @@ fn a_report_may_go_to_standard_output(rt: HostRuntime) -> Result<(), Fail> {
     let alloc = rt.alloc();
     let mut shelf = shelf_of(alloc, RULES.as_bytes(), &HEADER, b"", &[])?;
     let words = "plain r.toml t.pcap s.txt out.pcap -";
-    assert_eq!(rt; ending_of(alloc, words, &mut shelf)?.as_str(), "0 ");
+    assert_eq!(rt; ending_of(&rt, alloc, words, &mut shelf)?.as_str(), "0 ");
     assert_eq!(rt; text_of(&shelf, "-")?, "records 0 outs 0\n");
     assert_eq!(rt; refuse_memory(&mut shelf), 9);
     assert_eq!(rt; text_of(&shelf, "!")?, "yoda: no memory\n");

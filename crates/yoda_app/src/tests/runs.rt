@@ -9,7 +9,7 @@ fn a_syn_is_answered_with_its_forged_number(rt: HostRuntime) -> Result<(), Fail>
         (HEADER.to_vec(alloc)?, HEADER.to_vec(alloc)?),
     ];
     for (trace, out) in rows {
-        assert_eq!(rt; left_of(alloc, PLAIN, &trace, "out.pcap")?, out);
+        assert_eq!(rt; left_of(&rt, alloc, PLAIN, &trace, "out.pcap")?, out);
     }
     Ok(())
 }
@@ -40,7 +40,7 @@ fn each_record_has_its_verdict(rt: HostRuntime) -> Result<(), Fail> {
     for (frames, report) in rows {
         let trace = syns(alloc, frames)?;
         assert_eq!(rt;
-            left_of(alloc, PLAIN, &trace, "report.txt")?.as_slice(),
+            left_of(&rt, alloc, PLAIN, &trace, "report.txt")?.as_slice(),
             report.as_bytes()
         );
     }
@@ -66,7 +66,7 @@ fn a_frame_without_a_segment_has_its_verdict(rt: HostRuntime) -> Result<(), Fail
     ];
     for (trace, report) in rows {
         assert_eq!(rt;
-            left_of(alloc, PLAIN, &trace, "report.txt")?.as_slice(),
+            left_of(&rt, alloc, PLAIN, &trace, "report.txt")?.as_slice(),
             report.as_bytes()
         );
     }
@@ -167,7 +167,7 @@ fn segments_are_handled_by_the_table(rt: HostRuntime) -> Result<(), Fail> {
         ),
     ];
     for (segments, report, sent) in rows {
-        let (lines, outs) = outcome_of(alloc, &trace_of(alloc, segments)?, "")?;
+        let (lines, outs) = outcome_of(&rt, alloc, &trace_of(alloc, segments)?, "")?;
         assert_eq!(rt; lines.as_slice(), report.as_bytes());
         assert_eq!(rt; outs.as_slice(), sent.as_bytes());
     }
@@ -210,7 +210,7 @@ fn a_request_head_has_14600_bytes_at_most(rt: HostRuntime) -> Result<(), Fail> {
         ),
     ];
     for (letters, end, report, sent) in rows {
-        let (lines, outs) = outcome_of(alloc, &long_head(alloc, letters, end)?, "")?;
+        let (lines, outs) = outcome_of(&rt, alloc, &long_head(alloc, letters, end)?, "")?;
         let whole = format!(in alloc; "{held}{report}")?;
         assert_eq!(rt; lines.as_slice(), whole.as_bytes());
         assert_eq!(rt; outs.as_slice(), sent.as_bytes());
@@ -234,7 +234,7 @@ fn a_dump_has_a_line_for_each_frame(rt: HostRuntime) -> Result<(), Fail> {
     ];
     for (trace, lines) in rows {
         assert_eq!(rt;
-            left_of(alloc, DUMP, &trace, "-")?.as_slice(),
+            left_of(&rt, alloc, DUMP, &trace, "-")?.as_slice(),
             lines.as_bytes()
         );
     }

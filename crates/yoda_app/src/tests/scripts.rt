@@ -42,7 +42,7 @@ fn a_script_says_who_handles_a_record_and_what_fails(rt: HostRuntime) -> Result<
         ),
     ];
     for (segments, script, report, sent) in rows {
-        let (lines, outs) = outcome_of(alloc, &trace_of(alloc, segments)?, script)?;
+        let (lines, outs) = outcome_of(&rt, alloc, &trace_of(alloc, segments)?, script)?;
         assert_eq!(rt; lines.as_slice(), report.as_bytes());
         assert_eq!(rt; outs.as_slice(), sent.as_bytes());
     }
@@ -63,7 +63,7 @@ fn a_refused_script_is_told_by_its_first_faulty_line(rt: HostRuntime) -> Result<
     ];
     for (script, end) in rows {
         let mut shelf = shelf_of(alloc, RULES.as_bytes(), &HEADER, script.as_bytes(), &[])?;
-        assert_eq!(rt; ending_of(alloc, PLAIN, &mut shelf)?.as_str(), end);
+        assert_eq!(rt; ending_of(&rt, alloc, PLAIN, &mut shelf)?.as_str(), end);
     }
     Ok(())
 }
