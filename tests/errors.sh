@@ -33,11 +33,14 @@ usage dump trace.pcap more
 usage dump ''
 usage plain rules.toml trace.pcap script.txt trace.pcap report.txt
 usage plain rules.toml trace.pcap script.txt - report.txt
+usage run rules.toml trace.pcap script.txt out.pcap report.txt
+usage run rules.toml trace.pcap script.txt out.pcap report.txt -
 
 says 3 'read fault: gone.pcap' 'read fault: NAME' dump gone.pcap
 says 3 'read fault: .' 'it is a folder' dump .
 says 3 'read fault: /dev/fd/9' 'it is a pipe or a device' dump /dev/fd/9 9< <(cat trace.pcap)
 says 4 'write fault: gone/out.pcap' 'write fault: NAME' plain rules.toml trace.pcap script.txt gone/out.pcap report.txt
+says 4 'write fault: gone/journal.txt' 'write fault: NAME' run rules.toml trace.pcap script.txt sent.pcap told.txt gone/journal.txt
 [ ! -w /dev/full ] || says 4 'write fault: /dev/full' 'the disk is full' plain rules.toml trace.pcap script.txt /dev/full report.txt
 
 trace() { bytes "$1" >bad.pcap; says 5 "trace refused: $2" "$3" dump bad.pcap; }
@@ -54,6 +57,7 @@ trace "$HEADER 65000000 00000000 00000000 01000400 01000400" 'record too large a
 silent() { "$YODA" "$@" >text 2>said && [ ! -s said ] || fail "$* says: $(cat said)"; cases=$((cases + 1)); }
 silent plain rules.toml trace.pcap script.txt sent.pcap report.txt
 silent plain rules.toml trace.pcap script.txt sent.pcap -
+silent run rules.toml trace.pcap script.txt sent.pcap - journal.txt
 silent dump trace.pcap
 truncate -s 1048577 long.toml
 says 3 'read fault: gone.pcap' 'read fault: NAME' plain long.toml gone.pcap script.txt out.pcap report.txt
