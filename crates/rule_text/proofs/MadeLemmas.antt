@@ -11,12 +11,14 @@ use Rattle.toml.specs.Data.{Members, as_table}
 use Rattle.toml.specs.Parse.{parse_document}
 use Rattle.weighted_pick.specs.Pick.{total_weight}
 use Rattle.rule_table.specs.declared.types.Rule.{Rule as RuleType}
-use Rattle.rule_table.specs.Setups.{SetupView, IsSetup, IsRule}
+use Rattle.rule_table.specs.declared.types.Service.{Service as ServiceType}
+use Rattle.rule_table.specs.declared.types.Sizes.{Sizes}
+use Rattle.rule_table.specs.Setups.{SetupView, IsSetup, IsRule, setup_of}
 use Rattle.rule_text.specs.declared.fault.RuleFault.TheVariants.{Syntax, Twice, UnknownServer, ZeroTotal}
 use Rattle.rule_text.specs.declared.fault.Place.TheVariants.{Top, Service, Server, Rule}
-use Rattle.rule_text.specs.Checks.{apart, clashes, every, first_clash, is_among, known, no_extra, once, weighs}
-use Rattle.rule_text.specs.Document.{Fields, fields_of, names_of, resolved, resolved_rules, document_setup, rules_in}
-use Rattle.rule_text.specs.Laws.{MakesSetup, SaysSetups}
+use Rattle.rule_text.specs.Checks.{unless_any, clashes, every, first_clash, is_among, known, no_extra, once, weighs}
+use Rattle.rule_text.specs.Document.{names_of, resolved, resolved_rules, document_setup, rules_in}
+use Rattle.rule_text.specs.Laws.{SaysSetups}
 use Rattle.rule_text.specs.Steps.{◌>>=◌, each}
 use Rattle.rule_text.specs.Values.{array_at, field_at}
 use Rattle.rule_text.specs.Written.{Named, Written, sizes_of, service_of, server_of, rule_of}
@@ -25,32 +27,44 @@ use Rattle.rule_text.proofs.ApartLemmas.{AreApart, IsElsewhere, apart_from_none,
 
 -- ---- the fields
 
+-- all that the file writes
+pub record Fields : Type 0 where
+  pub sizes : Sizes
+  pub service_table : Members
+  pub service : ServiceType
+  pub server_tables : List Members
+  pub servers : List Named
+  pub rule_tables : List Members
+  pub rules : List Written
+
+-- these are the fields of the document
+pub record AreRead (ms : Members) (f : Fields) : Type 0 where
+  pub sizes : sizes_of ms ≡ Ok f.sizes
+  pub service_table : field_at as_table Top (codes "service") ms ≡ Ok f.service_table
+  pub service : service_of f.service_table ≡ Ok f.service
+  pub server_tables : array_at as_table 1 256 Top (codes "server") ms ≡ Ok f.server_tables
+  pub servers : each server_of 0 f.server_tables ≡ Ok f.servers
+  pub rule_tables : array_at as_table 1 256 Top (codes "rule") ms ≡ Ok f.rule_tables
+  pub rules : each rule_of 0 f.rule_tables ≡ Ok f.rules
+
 record AreFields (f : Fields) : Type 0 where
   sizes : AreSizes f.sizes
   server_count : (1 ≤ length f.servers) × (length f.servers ≤ 256)
   rule_count : (1 ≤ length f.rules) × (length f.rules ≤ 256)
   forms : All HasForms f.rules
 
-fields_hold : (ms : Members) (f : Fields) → fields_of ms ≡ Ok f → AreFields f
-unfolding fields_of
-fields_hold ms f e =
-    let sizes = bind_is (sizes_of ms) _ f e in
-    let service_table = bind_is (field_at as_table Top (codes "service") ms) _ f sizes.2 in
-    let service = bind_is (service_of service_table.0) _ f service_table.2 in
-    let server_tables = bind_is (array_at as_table 1 256 Top (codes "server") ms) _ f service.2 in
-    let servers = bind_is (each server_of 0 server_tables.0) _ f server_tables.2 in
-    let rule_tables = bind_is (array_at as_table 1 256 Top (codes "rule") ms) _ f servers.2 in
-    let rules = bind_is (each rule_of 0 rule_tables.0) _ f rule_tables.2 in
-    let server_limits = tables_at_limits (codes "server") ms server_tables.0 server_tables.1 in
-    let rule_limits = tables_at_limits (codes "rule") ms rule_tables.0 rule_tables.1 in
-    let server_count = length-each server_of 0 server_tables.0 servers.0 servers.1 in
-    let rule_count = length-each rule_of 0 rule_tables.0 rules.0 rules.1 in
-    subst AreFields (ok_is rules.2) (record {
-      sizes = sizes_hold ms sizes.0 sizes.1;
+fields_hold : (ms : Members) (f : Fields) → AreRead ms f → AreFields f
+fields_hold ms f are =
+    let server_limits = tables_at_limits (codes "server") ms f.server_tables are.server_tables in
+    let rule_limits = tables_at_limits (codes "rule") ms f.rule_tables are.rule_tables in
+    let server_count = length-each server_of 0 f.server_tables f.servers are.servers in
+    let rule_count = length-each rule_of 0 f.rule_tables f.rules are.rules in
+    record {
+      sizes = sizes_hold ms f.sizes are.sizes;
       server_count = (omega arith, omega arith);
       rule_count = (omega arith, omega arith);
-      forms = each_all HasForms rule_of rule_has_forms 0 rule_tables.0 rules.0 rules.1;
-    })
+      forms = each_all HasForms rule_of rule_has_forms 0 f.rule_tables f.rules are.rules;
+    }
 
 -- ---- servers
 
@@ -66,12 +80,11 @@ pairs_map view (x ∷ xs) are = λ i j d below inside same.
 
 -- the servers differ, and the rules name them, each at most once
 pub record Agree (f : Fields) : Type 0 where
-  pub differ : apart f.service f.servers ≡ Ok tt
+  pub differ : unless_any (λ s. Twice s.0) (first_clash (clashes f.service) [] f.servers) ≡ Ok tt
   pub named : every (λ n. known (names_of f.servers)) 0 f.rules ≡ Ok tt
   pub single : every (λ n. once) 0 f.rules ≡ Ok tt
 
 are_apart : (f : Fields) → Agree f → AreApart f.service f.servers
-unfolding apart
 are_apart f e =
     apart_from_none f.service [] f.servers
     (record { apart = λ i j d below inside. absurd (omega arith); elsewhere = All-nil (IsElsewhere f.service) })
@@ -105,12 +118,13 @@ rule_holds names w forms unknown again weight =
       weighs = weight;
     }
 
-pub fields_make_setup : (ms : Members) (f : Fields) → fields_of ms ≡ Ok f → Agree f → MakesSetup f
+pub fields_make_setup : (ms : Members) (f : Fields) → AreRead ms f → Agree f → every weighs 0 (resolved_rules f.servers f.rules) ≡ Ok tt
+    → IsSetup (setup_of f.sizes f.service (map (λ s. s.1) f.servers) (resolved_rules f.servers f.rules))
 fields_make_setup ms f written agreed heavy =
     let fields = fields_hold ms f written in
     let apart = are_apart f agreed in
     let names = names_of f.servers in
-    let weights = every_all (λ (r : RuleType). 0 < total_weight r.to) weighs weighs_holds 0 (resolved_rules f) heavy in
+    let weights = every_all (λ (r : RuleType). 0 < total_weight r.to) weighs weighs_holds 0 (resolved_rules f.servers f.rules) heavy in
     let server_count = length-map f.servers (λ s. s.1) in
     let name_count = length-map f.servers (λ s. s.0) in
     let rule_count = length-map f.rules (resolved names) in
@@ -127,7 +141,7 @@ fields_make_setup ms f written agreed heavy =
       rules = All-map (IsRule (length (map (λ s. s.1) f.servers))) (resolved names) f.rules (λ k d inside.
           let w = get_or f.rules k d in
           let here = get_or-map (resolved names) f.rules k d (resolved names d) inside in
-          let there : k < length (resolved_rules f) = omega (arith, rule_count) in
+          let there : k < length (resolved_rules f.servers f.rules) = omega (arith, rule_count) in
           let weight = subst (λ (r : RuleType). 0 < total_weight r.to) here (weights k (resolved names d) there) in
           subst (λ n. IsRule n (resolved names w)) (name_count ∙ sym server_count)
           (rule_holds names w (fields.forms k d inside) (are_known f agreed k d inside) (are_single f agreed k d inside) weight));
@@ -138,17 +152,41 @@ fields_make_setup ms f written agreed heavy =
 document_says_setups : (ms : Members) (setup : SetupView) → document_setup ms ≡ Ok setup → IsSetup setup
 unfolding document_setup
 document_says_setups ms setup e =
-    let f = bind_is (fields_of ms) _ setup e in
-    let top = bind_is (no_extra Top ms) _ setup f.2 in
-    let service = bind_is (no_extra Service f.0.service_table) _ setup top.2 in
-    let servers = bind_is (every (λ n. no_extra (Server n)) 0 f.0.server_tables) _ setup service.2 in
-    let rules = bind_is (every (λ n. no_extra (Rule n)) 0 f.0.rule_tables) _ setup servers.2 in
-    let differ = bind_is (apart f.0.service f.0.servers) _ setup rules.2 in
-    let named = bind_is (every (λ n. known (names_of f.0.servers)) 0 f.0.rules) _ setup differ.2 in
-    let single = bind_is (every (λ n. once) 0 f.0.rules) _ setup named.2 in
-    let heavy = bind_is (every weighs 0 (resolved_rules f.0)) _ setup single.2 in
-    let agreed : Agree f.0 = record { differ = differ.1; named = named.1; single = single.1 } in
-    subst IsSetup (ok_is heavy.2) (fields_make_setup ms f.0 f.1 agreed heavy.1)
+    let sizes = bind_is (sizes_of ms) _ setup e in
+    let service_table = bind_is (field_at as_table Top (codes "service") ms) _ setup sizes.2 in
+    let service = bind_is (service_of service_table.0) _ setup service_table.2 in
+    let server_tables = bind_is (array_at as_table 1 256 Top (codes "server") ms) _ setup service.2 in
+    let servers = bind_is (each server_of 0 server_tables.0) _ setup server_tables.2 in
+    let rule_tables = bind_is (array_at as_table 1 256 Top (codes "rule") ms) _ setup servers.2 in
+    let rules = bind_is (each rule_of 0 rule_tables.0) _ setup rule_tables.2 in
+    let plain_top = bind_is (no_extra Top ms) _ setup rules.2 in
+    let plain_service = bind_is (no_extra Service service_table.0) _ setup plain_top.2 in
+    let plain_servers = bind_is (every (λ n. no_extra (Server n)) 0 server_tables.0) _ setup plain_service.2 in
+    let plain_rules = bind_is (every (λ n. no_extra (Rule n)) 0 rule_tables.0) _ setup plain_servers.2 in
+    let differ = bind_is (unless_any (λ s. Twice s.0) (first_clash (clashes service.0) [] servers.0)) _ setup plain_rules.2 in
+    let named = bind_is (every (λ n. known (names_of servers.0)) 0 rules.0) _ setup differ.2 in
+    let single = bind_is (every (λ n. once) 0 rules.0) _ setup named.2 in
+    let heavy = bind_is (every weighs 0 (resolved_rules servers.0 rules.0)) _ setup single.2 in
+    let f : Fields = record {
+      sizes = sizes.0;
+      service_table = service_table.0;
+      service = service.0;
+      server_tables = server_tables.0;
+      servers = servers.0;
+      rule_tables = rule_tables.0;
+      rules = rules.0;
+    } in
+    let read : AreRead ms f = record {
+      sizes = sizes.1;
+      service_table = service_table.1;
+      service = service.1;
+      server_tables = server_tables.1;
+      servers = servers.1;
+      rule_tables = rule_tables.1;
+      rules = rules.1;
+    } in
+    let agreed : Agree f = record { differ = differ.1; named = named.1; single = single.1 } in
+    subst IsSetup (ok_is heavy.2) (fields_make_setup ms f read agreed heavy.1)
 
 pub rules_say_setups : SaysSetups
 unfolding rules_in

@@ -13,8 +13,8 @@ use Rattle.rule_text.specs.declared.fault.RuleFault.{RuleFault}
 use Rattle.rule_text.specs.declared.fault.RuleFault.TheVariants.{Syntax, Missing, Extra, Form, Range, Twice, UnknownServer, ZeroTotal, Memory}
 use Rattle.rule_text.specs.declared.fault.Place.{Place}
 use Rattle.rule_text.specs.declared.fault.Place.TheVariants.{Top, Service, Server, Rule}
-use Rattle.rule_text.specs.Checks.{unless_any, every, no_extra, apart, known, once, weighs, clashes, first_clash, is_among, known_keys, keys_of}
-use Rattle.rule_text.specs.Document.{fields_of, names_of, resolved_rules, document_setup, rules_in}
+use Rattle.rule_text.specs.Checks.{unless_any, every, no_extra, known, once, weighs, clashes, first_clash, is_among, known_keys, keys_of}
+use Rattle.rule_text.specs.Document.{names_of, resolved_rules, document_setup, rules_in}
 use Rattle.rule_text.specs.Forms.{address_of, is_server_name, kept_if, secret_of}
 use Rattle.rule_text.specs.Laws.{NeverMemory}
 use Rattle.rule_text.specs.Names.{field_name}
@@ -145,17 +145,6 @@ rule_told n ms =
 tables_told : (key : List ℕ) (ms : Members) → IsTold (array_at as_table 1 256 Top key ms)
 tables_told key ms = array_told as_table 1 256 Top key ms
 
-fields_told : (ms : Members) → IsTold (fields_of ms)
-unfolding fields_of
-fields_told ms =
-    bind_told (sizes_of ms) _ (sizes_told ms) (λ sizes.
-    bind_told (field_at as_table Top (codes "service") ms) _ (field_told as_table Top (codes "service") ms) (λ service_table.
-    bind_told (service_of service_table) _ (service_told service_table) (λ service.
-    bind_told (array_at as_table 1 256 Top (codes "server") ms) _ (tables_told (codes "server") ms) (λ server_tables.
-    bind_told (each server_of 0 server_tables) _ (each_told server_of server_told 0 server_tables) (λ servers.
-    bind_told (array_at as_table 1 256 Top (codes "rule") ms) _ (tables_told (codes "rule") ms) (λ rule_tables.
-    bind_told (each rule_of 0 rule_tables) _ (each_told rule_of rule_told 0 rule_tables) (λ rules. ok_told _)))))))
-
 -- ---- checks
 
 no_extra_told : (place : Place) (ms : Members) → IsTold (no_extra place ms)
@@ -171,18 +160,26 @@ weighs_told : (n : ℕ) (rule : RuleType) → IsTold (weighs n rule)
 weighs_told n rule = unless_told (total_weight rule.to == 0) (ZeroTotal n) (λ e. cc)
 
 document_told : (ms : Members) → IsTold (document_setup ms)
-unfolding document_setup apart
+unfolding document_setup
 document_told ms =
-    bind_told (fields_of ms) _ (fields_told ms) (λ f.
+    bind_told (sizes_of ms) _ (sizes_told ms) (λ sizes.
+    bind_told (field_at as_table Top (codes "service") ms) _ (field_told as_table Top (codes "service") ms) (λ service_table.
+    bind_told (service_of service_table) _ (service_told service_table) (λ service.
+    bind_told (array_at as_table 1 256 Top (codes "server") ms) _ (tables_told (codes "server") ms) (λ server_tables.
+    bind_told (each server_of 0 server_tables) _ (each_told server_of server_told 0 server_tables) (λ servers.
+    bind_told (array_at as_table 1 256 Top (codes "rule") ms) _ (tables_told (codes "rule") ms) (λ rule_tables.
+    bind_told (each rule_of 0 rule_tables) _ (each_told rule_of rule_told 0 rule_tables) (λ rules.
     bind_told (no_extra Top ms) _ (no_extra_told Top ms) (λ _.
-    bind_told (no_extra Service f.service_table) _ (no_extra_told Service f.service_table) (λ _.
-    bind_told (every (λ n. no_extra (Server n)) 0 f.server_tables) _ (every_told _ (λ n. no_extra_told (Server n)) 0 f.server_tables) (λ _.
-    bind_told (every (λ n. no_extra (Rule n)) 0 f.rule_tables) _ (every_told _ (λ n. no_extra_told (Rule n)) 0 f.rule_tables) (λ _.
-    bind_told (apart f.service f.servers) _ (unless_any_told (λ s. Twice s.0) (first_clash (clashes f.service) [] f.servers) (λ s e. cc)) (λ _.
-    bind_told (every (λ n. known (names_of f.servers)) 0 f.rules) _
-    (every_told _ (λ n w. unless_any_told UnknownServer _ (λ name e. cc)) 0 f.rules) (λ _.
-    bind_told (every (λ n. once) 0 f.rules) _ (every_told _ (λ n w. unless_any_told Twice (first_clash is_among [] w.to) (λ name e. cc)) 0 f.rules) (λ _.
-    bind_told (every weighs 0 (resolved_rules f)) _ (every_told weighs weighs_told 0 (resolved_rules f)) (λ _. ok_told _)))))))))
+    bind_told (no_extra Service service_table) _ (no_extra_told Service service_table) (λ _.
+    bind_told (every (λ n. no_extra (Server n)) 0 server_tables) _ (every_told _ (λ n. no_extra_told (Server n)) 0 server_tables) (λ _.
+    bind_told (every (λ n. no_extra (Rule n)) 0 rule_tables) _ (every_told _ (λ n. no_extra_told (Rule n)) 0 rule_tables) (λ _.
+    bind_told (unless_any (λ s. Twice s.0) (first_clash (clashes service) [] servers)) _
+    (unless_any_told (λ s. Twice s.0) (first_clash (clashes service) [] servers) (λ s e. cc)) (λ _.
+    bind_told (every (λ n. known (names_of servers)) 0 rules) _
+    (every_told _ (λ n w. unless_any_told UnknownServer _ (λ name e. cc)) 0 rules) (λ _.
+    bind_told (every (λ n. once) 0 rules) _ (every_told _ (λ n w. unless_any_told Twice (first_clash is_among [] w.to) (λ name e. cc)) 0 rules) (λ _.
+    bind_told (every weighs 0 (resolved_rules servers rules)) _ (every_told weighs weighs_told 0 (resolved_rules servers rules)) (λ _.
+    ok_told _)))))))))))))))
 
 pub never_memory : NeverMemory
 unfolding rules_in

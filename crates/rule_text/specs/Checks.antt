@@ -39,8 +39,7 @@ is_among names name = list_any (λ n. bytes_eq n name) names
 
 -- the fields that a table may have
 abbrev pub known_keys : Place → List (List ℕ)
-known_keys Top =
-    codes "instances" ∷ codes "replicas" ∷ codes "copies" ∷ codes "shards" ∷ codes "secret" ∷ codes "service"
+known_keys Top = codes "instances" ∷ codes "replicas" ∷ codes "copies" ∷ codes "shards" ∷ codes "secret" ∷ codes "service"
     ∷ codes "server" ∷ codes "rule" ∷ []
 known_keys Service = codes "number" ∷ codes "address" ∷ codes "port" ∷ []
 known_keys (Server n) = codes "name" ∷ codes "address" ∷ codes "port" ∷ []
@@ -62,9 +61,6 @@ abbrev pub clashes : ServiceType → List Named → Named → Bool
 clashes service earlier s =
     list_any (λ t. bytes_eq t.0 s.0 || (t.1.address == s.1.address && t.1.port == s.1.port)) earlier
     || s.1.address == service.address
-
-unfoldable pub apart : ServiceType → List Named → Result (Unit {0}) RuleFault
-apart service servers = unless_any (λ s. Twice s.0) (first_clash (clashes service) [] servers)
 
 -- ---- rules
 

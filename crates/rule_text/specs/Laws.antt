@@ -2,14 +2,9 @@
 use Rattle.std.specs.Prelude.{◌≡◌, ◌≢◌, ℕ, List, Ok, Err}
 use Rattle.rule_table.specs.Setups.{SetupView, IsSetup}
 use Rattle.rule_text.specs.declared.fault.RuleFault.TheVariants.{Memory}
-use Rattle.rule_text.specs.Checks.{every, weighs}
-use Rattle.rule_text.specs.Document.{Fields, resolved_rules, rules_in, setup_with}
+use Rattle.rule_text.specs.Document.{rules_in}
 
--- where the weights of no rule sum to 0, all that holds of every setup holds of the one that the fields make
-abbrev pub MakesSetup : Fields → Type 0
-MakesSetup f = every weighs 0 (resolved_rules f) ≡ Ok tt → IsSetup (setup_with f)
-
--- the same of what the bytes say
+-- all that holds of every setup holds of the one that the bytes say
 abbrev pub SaysSetups : Type 0
 SaysSetups = (bytes : List ℕ) (setup : SetupView) → rules_in bytes ≡ Ok setup → IsSetup setup
 

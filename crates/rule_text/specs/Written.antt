@@ -67,10 +67,7 @@ weights_at place count ms = do
 -- a text that the test takes, if the field is there
 unfoldable pub condition_at : (List ℕ → Bool) → Place → List ℕ → Members → Result (Option (List ℕ)) RuleFault
 condition_at test place key ms =
-    if is_some (get_member key ms) then (do
-      s ← text_at (kept_if test) place key ms
-      Ok (Some s))
-    else Ok None
+    if is_some (get_member key ms) then text_at (kept_if test) place key ms >>= (λ s. Ok (Some s)) else Ok None
 
 unfoldable pub rule_of : ℕ → Members → Result Written RuleFault
 rule_of n ms = do

@@ -2,12 +2,12 @@ ghost use Rattle.std.specs.Prelude.{◌≡◌, ◌==◌, ◌≤◌, [], find, le
 ghost use Rattle.std.specs.Option.{option_copied};
 ghost use Rattle.toml.specs.View.{table_view};
 ghost use Rattle.weighted_pick.specs.Pick.{total_weight};
-ghost use Rattle.rule_text.specs.Checks.{apart as apart_of, clashes as clashes_with, every, first_clash as first_clash_in, is_among as is_among_names, keys_of, known as known_rule, known_keys as known_keys_of, no_extra as no_extra_in, once as once_in, weighs as weighs_rule};
+ghost use Rattle.rule_text.specs.Checks.{clashes as clashes_with, every, first_clash as first_clash_in, is_among as is_among_names, keys_of, known as known_rule, known_keys as known_keys_of, no_extra as no_extra_in, once as once_in, unless_any, weighs as weighs_rule};
+ghost use Rattle.rule_text.specs.declared.fault.RuleFault.TheVariants.{Twice};
 ghost use Rattle.rule_text.specs.Steps.{Gives};
 ghost use Rattle.rule_text.specs.Document.{names_of};
-ghost use Rattle.rule_text.specs.WrittenViews.{AreNames, fields_view, named, written};
+ghost use Rattle.rule_text.specs.WrittenViews.{named, written};
 
-use crate::document::Fields;
 use crate::fault::{Field, Place, RuleFault, extra, twice, unknown_server};
 use crate::written::{NamedServer, WrittenRule};
 use rule_table::{Rule, Service};
@@ -93,9 +93,8 @@ pub fn no_rule_extra(alloc: Global, tables: &[&Table]) -> Result<(), RuleFault>
 }
 
 /// That no server has the name, or the address and port, of one before it, or the service's address.
-#[tactic(auto, unfolding(crate::specs::Checks::apart))]
 pub fn apart(alloc: Global, service: Service, servers: &[NamedServer]) -> Result<(), RuleFault>
-    ensures { Gives (λ u. u) result (apart_of service (map named servers.now)) }
+    ensures { Gives (λ u. u) result (unless_any (λ s. Twice s.0) (first_clash_in (clashes_with service) [] (map named servers.now))) }
 {
     match first_clash(service, servers) {
         Some(server) => Err(twice(alloc, server.name)),
@@ -128,22 +127,23 @@ fn clashes(service: Service, earlier: &[NamedServer], server: &NamedServer) -> b
 }
 
 /// That each name of the rules is a server's.
-#[tactic(auto, unfolding(crate::specs::WrittenViews::fields_view))]
-pub fn all_known(alloc: Global, names: &[&str], fields: &Fields) -> Result<(), RuleFault>
-    requires { AreNames fields.now names.now }
-    ensures { Gives (λ u. u) result
-        (every (λ n. known_rule (names_of (fields_view fields.now).servers)) 0 (fields_view fields.now).rules) }
+pub fn all_known(
+    alloc: Global,
+    servers: &[NamedServer],
+    rules: &[WrittenRule],
+) -> Result<(), RuleFault>
+    ensures { Gives (λ u. u) result (every (λ n. known_rule (names_of (map named servers.now))) 0 (map written rules.now)) }
 {
-    for rule in &fields.rules {
-        known(alloc, names, rule)?;
+    for rule in rules {
+        known(alloc, servers, rule)?;
     }
     Ok(())
 }
 
 /// That each name of a rule is a server's.
 #[tactic(auto, unfolding(crate::specs::WrittenViews::written))]
-fn known(alloc: Global, servers: &[&str], rule: &WrittenRule) -> Result<(), RuleFault>
-    ensures { Gives (λ u. u) result (known_rule (map (λ s. s.now) servers.now) (written rule.now)) }
+fn known(alloc: Global, servers: &[NamedServer], rule: &WrittenRule) -> Result<(), RuleFault>
+    ensures { Gives (λ u. u) result (known_rule (names_of (map named servers.now)) (written rule.now)) }
 {
     match first_unknown(servers, &rule.to) {
         Some(name) => Err(unknown_server(alloc, name)),
@@ -152,15 +152,28 @@ fn known(alloc: Global, servers: &[&str], rule: &WrittenRule) -> Result<(), Rule
 }
 
 /// The first name that no server has.
-fn first_unknown<'a>(servers: &[&str], names: &[&'a str]) -> Option<&'a str>
-    ensures { option_copied result ≡ find (λ n. not (is_among_names (map (λ s. s.now) servers.now) n)) (map (λ n. n.now) names.now) }
+fn first_unknown<'a>(servers: &[NamedServer], names: &[&'a str]) -> Option<&'a str>
+    ensures { option_copied result
+        ≡ find (λ n. not (is_among_names (names_of (map named servers.now)) n)) (map (λ n. n.now) names.now) }
 {
     for name in names {
-        if !is_among(servers, name) {
+        if !is_server(servers, name) {
             return Some(name);
         }
     }
     None
+}
+
+/// Whether a server has the name.
+fn is_server(servers: &[NamedServer], name: &str) -> bool
+    ensures { result ≡ is_among_names (names_of (map named servers.now)) name.now }
+{
+    for server in servers {
+        if server.name == name {
+            return true;
+        }
+    }
+    false
 }
 
 /// That each rule names a server once.

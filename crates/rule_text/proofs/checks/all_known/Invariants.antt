@@ -6,6 +6,5 @@ use Rattle.rule_text.proofs.checks.all_known.Given as goal
 
 abbrev pub invariant-loop-rule : goal.invariant-loop-rule
 invariant-loop-rule l =
-    let check = known (names_of (map named l.fields.servers.items)) in
-    every (λ n. check) 0 (map written l.fields.rules.items)
-    ≡ every (λ n. check) l.rule-index (map written (drop l.rule-index l.fields.rules.items))
+    let check = known (names_of (map named l.servers)) in
+    every (λ n. check) 0 (map written l.rules) ≡ every (λ n. check) l.rule-index (map written (drop l.rule-index l.rules))
