@@ -1,5 +1,5 @@
 -- Why a record of a run has its verdict.
-use Rattle.std.proofs.Common.{◌≡◌, ℕ, zero, suc, ◌≤◌, ◌<◌, inl, inr, Bool, true, false, Option, Some, None, List, [], refl, ◌∙◌, arith}
+use Rattle.std.proofs.Common.{◌≡◌, ℕ, zero, suc, ◌≤◌, ◌<◌, inr, Bool, true, false, Option, Some, None, List, [], refl, ◌∙◌, arith}
 use Rattle.std.specs.Prelude.{IsSome, nat_le, unwrap_or, if◌then◌else◌}
 use Rattle.std.proofs.lemmas.Bool.{false≢true}
 use Rattle.bench.specs.Bench.{BenchState}
