@@ -1,14 +1,15 @@
 -- A command's end and its line make its outcome.
 use Rattle.std.proofs.Common.{◌≡◌, ◌≢◌, ◌⊎◌, ℕ, ◌≤◌, List, [], ◌∷◌, refl, sym, ◌∙◌, ap, subst, inl, inr, arith}
-use Rattle.std.specs.Prelude.{Option, None, Some, Contains, Result, Ok, Err, IfErr, OnOk, codes}
+use Rattle.std.specs.Prelude.{Option, None, Some, Contains, ◌++◌, Result, Ok, Err, IfErr, OnOk, codes}
+use Rattle.std.specs.Option.{option_map_or}
 use Rattle.plain_run.specs.declared.fault.LoadFault.{LoadFault}
 use Rattle.plain_run.specs.declared.fault.LoadFault.TheVariants as fault
 use Rattle.shelf.specs.Changes.{Change, held}
 use Rattle.shelf.specs.Shelf.{Contents, Counts, SameContents, SameOthers, NoneFell}
 use Rattle.shelf.specs.declared.outside.Kind.TheVariants.{Reading, Writing}
-use Rattle.yoda_app.specs.Commands.{Command, error_name, IsUntouched, Says, SaysLine, line, write_text, IsDone, IsInputFault, IsWriteFault, IsRefused, judged_status, IsOutcome}
-use Rattle.yoda_app.specs.Ends.{IsUnloaded, IsEnd, stop_text, end_status}
-use Rattle.yoda_app.specs.Refusals.{status_of, refusal_text, read_text, memory_text}
+use Rattle.yoda_app.specs.Commands.{Command, error_name, IsUntouched, Says, SaysLine, line, IsDone, IsWriteFault, IsRefused, IsOutcome}
+use Rattle.yoda_app.specs.Ends.{IsInputFault, IsUnloaded, IsEnd, stop_text, end_status}
+use Rattle.yoda_app.specs.Refusals.{status_of, refusal_text, memory_text}
 use Rattle.yoda_app.specs.Written.{longer, AddsPart}
 use Rattle.yoda_app.specs.declared.ending.Stop.{Stop}
 use Rattle.yoda_app.specs.declared.ending.Stop.TheVariants.{Memory, Unloaded, Write}
@@ -40,16 +41,16 @@ outcome_done c s done silent elsewhere = record {
   refused = λ e. absurd (not_of_refusal 0 0 e refl (λ x. omega (arith, x)) (λ x. omega (arith, x)) (λ x. omega (arith, x)) (λ x. omega (arith, x)));
   no_memory = λ e. absurd (omega (arith, e));
   only = λ told f e. absurd (let n : c.refusal (held s.old) ≡ None = done.accepted told in cc);
-  complete = λ told quiet. inr (sym (ap judged_status (done.accepted told)));
+  complete = λ told quiet. inr (sym (ap (λ o. option_map_or status_of o 0) (done.accepted told)));
   elsewhere = elsewhere;
 }
 
-outcome_read : (c : Command) (s : Change) (n : List ℕ) → IsInputFault c s n → SaysLine s (read_text n) → IsElsewhere c s.old s.new → IsOutcome c s 3
+outcome_read : (c : Command) (s : Change) (n : List ℕ) → IsInputFault c s n → SaysLine s (refusal_text (fault.Read n)) → IsElsewhere c s.old s.new → IsOutcome c s 3
 outcome_read c s n fault says elsewhere = record {
   statuses = inr (inl refl);
   done = λ e. absurd (omega (arith, e));
   silent = λ e. absurd (omega (arith, e));
-  read_fault = λ _. (n, fault, says);
+  read_fault = λ _. (n, fault.fault, fault.untouched, says);
   write_fault = λ e. absurd (omega (arith, e));
   refused = λ e. absurd (not_of_refusal 3 3 e refl (λ x. omega (arith, x)) (λ x. omega (arith, x)) (λ x. omega (arith, x)) (λ x. omega (arith, x)));
   no_memory = λ e. absurd (omega (arith, e));
@@ -58,7 +59,7 @@ outcome_read c s n fault says elsewhere = record {
   elsewhere = elsewhere;
 }
 
-outcome_write : (c : Command) (s : Change) (n : List ℕ) → IsWriteFault c s n → SaysLine s (write_text n) → IsElsewhere c s.old s.new → IsOutcome c s 4
+outcome_write : (c : Command) (s : Change) (n : List ℕ) → IsWriteFault c s n → SaysLine s (codes "write fault: " ++ n) → IsElsewhere c s.old s.new → IsOutcome c s 4
 outcome_write c s n fault says elsewhere = record {
   statuses = inr (inr (inl refl));
   done = λ e. absurd (omega (arith, e));
@@ -103,7 +104,7 @@ outcome_refused c s f is refused says elsewhere =
       refused = λ _. (f, refl, refused, says);
       no_memory = λ e. absurd (not_of_refusal (status_of f) 9 is e (λ x. omega (arith, x)) (λ x. omega (arith, x)) (λ x. omega (arith, x)) (λ x. omega (arith, x)));
       only = λ told g e. inr (inr (let h : c.refusal (held s.old) ≡ Some f = refused.cause told in let same : f ≡ g = cc in ap status_of same));
-      complete = λ told quiet. inr (sym (ap judged_status (refused.cause told)));
+      complete = λ told quiet. inr (sym (ap (λ o. option_map_or status_of o 0) (refused.cause told)));
       elsewhere = elsewhere;
     }
 

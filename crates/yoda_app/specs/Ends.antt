@@ -1,16 +1,22 @@
 -- How a command with right words ends, before its line is said.
-use Rattle.std.specs.Prelude.{◌≡◌, ℕ, List, Contains, Result, Ok, Err}
+use Rattle.std.specs.Prelude.{◌≡◌, ℕ, List, ◌++◌, Contains, Result, Ok, Err, codes}
 use Rattle.std.specs.String.{string_bytes}
 use Rattle.common.specs.Causes.{Rose}
 use Rattle.plain_run.specs.Found.{IsFault}
+use Rattle.plain_run.specs.Loading.{IsReadFault}
 use Rattle.plain_run.specs.declared.fault.LoadFault.{LoadFault}
 use Rattle.shelf.specs.Changes.{Change}
 use Rattle.shelf.specs.Shelf.{SameContents}
 use Rattle.shelf.specs.declared.outside.Kind.TheVariants.{Writing}
-use Rattle.yoda_app.specs.Commands.{Command, StoppedAt, IsUntouched, IsDone, IsInputFault, IsWriteFault, IsRefused, write_text}
+use Rattle.yoda_app.specs.Commands.{Command, StoppedAt, IsUntouched, IsDone, IsWriteFault, IsRefused}
 use Rattle.yoda_app.specs.Refusals.{status_of, refusal_text, memory_text}
 use Rattle.yoda_app.specs.declared.ending.Stop.{Stop}
 use Rattle.yoda_app.specs.declared.ending.Stop.TheVariants.{Memory, Unloaded, Write}
+
+-- this input, which was not sure, had a fault, and no output was changed
+pub record IsInputFault (c : Command) (s : Change) (name : List ℕ) : Type 0 where
+  pub fault : IsReadFault c.inputs s name
+  pub untouched : IsUntouched s
 
 -- what holds where the inputs were not taken for this cause
 abbrev pub IsUnloaded : Command → Change → LoadFault → Type 0
@@ -36,7 +42,7 @@ stop_status (Write name) = 4
 abbrev pub stop_text : Stop → List ℕ
 stop_text Memory = memory_text
 stop_text (Unloaded f text) = string_bytes text
-stop_text (Write name) = write_text name.now
+stop_text (Write name) = codes "write fault: " ++ name.now
 
 abbrev pub end_status : Result (Unit {0}) Stop → ℕ
 end_status (Ok done) = 0

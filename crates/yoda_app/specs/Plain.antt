@@ -56,5 +56,6 @@ plain_of names = plain_over (paths names)
 abbrev pub plain_paths : List (List ℕ) → Paths
 plain_paths words = record { rules = word 1 words; trace = word 2 words; script = word 3 words; out = word 4 words; report = word 5 words }
 
+-- the command of the words
 abbrev pub plain_command : List (List ℕ) → Command
 plain_command words = plain_over (plain_paths words)

@@ -20,9 +20,6 @@ status_of (Rules fault) = 6
 status_of (Script fault) = 7
 status_of Memory = 9
 
-abbrev pub read_text : List ℕ → List ℕ
-read_text name = codes "read fault: " ++ name
-
 abbrev pub memory_text : List ℕ
 memory_text = codes "no memory"
 
@@ -50,7 +47,7 @@ script_text (script.Order line) = codes "line " ++ decimal line ++ codes " order
 script_text script.Memory = memory_text
 
 abbrev pub refusal_text : LoadFault → List ℕ
-refusal_text (Read name) = read_text name
+refusal_text (Read name) = codes "read fault: " ++ name
 refusal_text (Limit passed) = codes "limit: " ++ limit_text passed
 refusal_text (Trace fault) = codes "trace refused: " ++ capture_text fault
 refusal_text (Rules fault) = codes "rules refused: " ++ rules_text fault
