@@ -13,7 +13,7 @@ use Rattle.plain_run.specs.Benches.{Benches}
 use Rattle.plain_run.specs.Fold.{block_of}
 use Rattle.plain_run.specs.Made.{IsMadeAfter}
 use Rattle.plain_run.specs.declared.fold.Handled.{Handled}
-use Rattle.plain_run.proofs.Runs.{IsSoFar, at_first, one_more, at_last}
+use Rattle.plain_run.proofs.Runs.{IsSoFar, one_more}
 use Rattle.report_text.specs.Reports.{line_text}
 use Rattle.tcp_segment.specs.Written.{packet_bytes}
 use Rattle.tcp_segment.specs.declared.segment.Segment.{Segment}

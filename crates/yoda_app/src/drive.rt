@@ -21,7 +21,10 @@ fn add_flows(text: &mut String, s: &Summary) -> Result<(), AllocError>
     ensures { OnOk result (string_bytes text.new ≡ string_bytes text.old ++ flows_line s.now) }
 {
     let (flows, closed, open, reset) = (s.flows, s.closed, s.open, s.reset);
-    write!(text, "flows {flows} closed {closed} open {open} reset {reset}\n")
+    write!(
+        text,
+        "flows {flows} closed {closed} open {open} reset {reset}\n"
+    )
 }
 
 // Adds the lines of the bytes. The one error is want of memory.

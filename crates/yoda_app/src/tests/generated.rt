@@ -1,6 +1,7 @@
 use super::*;
 
-const USAGE: &str = "2 usage: plain RULES TRACE SCRIPT OUT REPORT, run RULES TRACE SCRIPT OUT REPORT JOURNAL, drive FLOWS BYTES NUMBER, dump TRACE\n";
+const USAGE: &str =
+    "2 usage: plain RULES TRACE SCRIPT OUT REPORT, run RULES TRACE SCRIPT OUT REPORT JOURNAL, drive FLOWS BYTES NUMBER, dump TRACE\n";
 
 #[test]
 fn a_generated_run_is_summed_up(rt: HostRuntime) -> Result<(), Fail> {
@@ -44,7 +45,11 @@ fn other_numbers_are_wrong_words(rt: HostRuntime) -> Result<(), Fail> {
     ];
     for words in rows {
         let mut shelf = shelf_of(alloc, b"", b"", b"", &[])?;
-        assert_eq!(rt; ending_of(alloc, words, &mut shelf)?.as_str(), USAGE, "{words}");
+        assert_eq!(rt;
+            ending_of(alloc, words, &mut shelf)?.as_str(),
+            USAGE,
+            "{words}"
+        );
         assert_eq!(rt; text_of(&shelf, "-")?, "");
     }
     Ok(())

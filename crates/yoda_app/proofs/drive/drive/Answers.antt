@@ -1,4 +1,4 @@
-use Rattle.std.proofs.Common.{◌≤◌, [], ◌∷◌, refl, inr, arith}
+use Rattle.std.proofs.Common.{[], ◌∷◌, refl, inr, arith}
 use Rattle.std.specs.Prelude.{codes}
 use Rattle.std.specs.String.{string_bytes}
 use Rattle.shelf.specs.Changes.{change}

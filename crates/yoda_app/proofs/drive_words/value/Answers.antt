@@ -1,4 +1,4 @@
-use Rattle.std.proofs.Common.{◌≡◌, ◌+◌, ◌*◌, ◌-◌, ◌<◌, ◌≤◌, ◌^◌, length, drop, get_or, refl, ◌∙◌, arith}
+use Rattle.std.proofs.Common.{◌+◌, ◌*◌, ◌-◌, ◌<◌, ◌≤◌, ◌^◌, length, drop, get_or, refl, ◌∙◌, arith}
 use Rattle.yoda_app.proofs.Numbers.{number_least, number_step}
 use Rattle.yoda_app.proofs.drive_words.value.Goals as goal
 

@@ -1,4 +1,4 @@
-use Rattle.std.proofs.Common.{◌≡◌, ℕ, List, ap}
+use Rattle.std.proofs.Common.{ℕ, List, ap}
 use Rattle.pcap_file.specs.Frames.{Capture, capture_of}
 use Rattle.yoda_app.proofs.texts.add_run.Goals as goal
 
