@@ -58,9 +58,11 @@ next_stop : (old mid new : Contents) (before between now : Counts) (sure still :
     → StopsAmong (record { old = old; new = new; before = before; now = now; sure = sure }) (first ∷ names) (text ∷ texts) e
 next_stop old mid new before between now sure still first text names texts Memory apart all others same counts stop = stop
 next_stop old mid new before between now sure still first text names texts (Unloaded f t) apart all others same counts stop = stop
-next_stop old mid new before between now sure still first text names texts (Write n) apart all others same counts stop =
-    (contains_behind first n.now names stop.0, rose_since _ _ _ (counts Writing n.now) stop.1,
-        inr (same ∙ all, stopped_from n.now names texts old mid new (kept_others first names old mid apart others) stop.2))
+next_stop old mid new before between now sure still first text names texts (Write n) apart all others same counts stop = (
+  contains_behind first n.now names stop.0,
+  rose_since _ _ _ (counts Writing n.now) stop.1,
+  inr (same ∙ all, stopped_from n.now names texts old mid new (kept_others first names old mid apart others) stop.2),
+)
 
 pub next_stops : (old mid new : Contents) (before between now : Counts) (sure still : List ℕ → Type 0) (first text : List ℕ) (names texts : List (List ℕ)) (r : Result (Unit {0}) Stop)
     → AreOther first names → mid first ≡ written first (old first) text → SameOthers first old mid → new first ≡ mid first → NoneFell before between

@@ -12,14 +12,14 @@ ghost use Rattle.yoda_app.specs.RunCommand.{AreRunTexts};
 
 use crate::outs_text::{add_packet, begin_outs};
 use crate::report::{LINE_BYTES, add_end, add_line};
-use bench::Call;
 use bench::input::Line;
-use bench::{forwarding_laws, job_laws, move_laws, store_laws};
+use bench::{Call, forwarding_laws, job_laws, move_laws, store_laws};
 use journal_text::journal;
 use pcap_file::Frame;
 use plain_run::Inputs;
 use run_threads::{
-    OpenGate, RunResult, calls_are_named, frames_of, journal_determines, run_all, verdicts_are_caused,
+    OpenGate, RunResult, calls_are_named, frames_of, journal_determines, run_all,
+    verdicts_are_caused,
 };
 use seen_lock::Entry;
 use std::alloc::{AllocError, Global};

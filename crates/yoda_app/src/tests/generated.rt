@@ -21,7 +21,7 @@ fn a_generated_run_is_summed_up(rt: HostRuntime) -> Result<(), Fail> {
         ),
     ];
     for (words, summary) in rows {
-        let text = left_of(alloc, words, b"", "-")?;
+        let text = left_of(&rt, alloc, words, b"", "-")?;
         assert_eq!(rt; text.as_slice(), summary.as_bytes());
     }
     Ok(())
@@ -46,7 +46,7 @@ fn other_numbers_are_wrong_words(rt: HostRuntime) -> Result<(), Fail> {
     for words in rows {
         let mut shelf = shelf_of(alloc, b"", b"", b"", &[])?;
         assert_eq!(rt;
-            ending_of(alloc, words, &mut shelf)?.as_str(),
+            ending_of(&rt, alloc, words, &mut shelf)?.as_str(),
             USAGE,
             "{words}"
         );
@@ -59,7 +59,7 @@ fn other_numbers_are_wrong_words(rt: HostRuntime) -> Result<(), Fail> {
 fn a_summary_that_cannot_be_written_is_a_write_fault(rt: HostRuntime) -> Result<(), Fail> {
     let alloc = rt.alloc();
     let mut shelf = shelf_of(alloc, b"", b"", b"", &[0])?;
-    let end = ending_of(alloc, "drive 1 0 5", &mut shelf)?;
+    let end = ending_of(&rt, alloc, "drive 1 0 5", &mut shelf)?;
     assert_eq!(rt; end.as_str(), "4 write fault: -\n");
     Ok(())
 }

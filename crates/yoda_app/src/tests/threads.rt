@@ -51,7 +51,12 @@ fn a_run_in_threads_leaves_its_journal(rt: HostRuntime) -> Result<(), Fail> {
         (
             &[],
             "",
-            &[("shard 0", 1), ("shard 1", 1), ("shard 2", 1), ("shard 3", 1)],
+            &[
+                ("shard 0", 1),
+                ("shard 1", 1),
+                ("shard 2", 1),
+                ("shard 3", 1),
+            ],
         ),
         (
             &WHOLE,

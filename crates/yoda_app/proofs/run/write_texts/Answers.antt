@@ -13,7 +13,7 @@ returns-in-Err-clause-stop g c =
     first_stop (change g.H.Shelf.content g.H.Shelf.faults g.H.Shelf.sure s0 s1) n.plain.out.now t.out.items (n.plain.report.now ∷ n.journal.now ∷ [])
     (string_bytes t.report ∷ t.journal.items ∷ []) c.in-Err.stop
     (kept_others n.plain.out.now (n.plain.report.now ∷ n.journal.now ∷ []) (g.H.Shelf.content s0) (g.H.Shelf.content s1)
-        ((λ same. c.requires.report (sym same)), ((λ same. c.requires.journal.0 (sym same)), tt)) c.write_output.ensures.others)
+    ((λ same. c.requires.report (sym same)), ((λ same. c.requires.journal.0 (sym same)), tt)) c.write_output.ensures.others)
     c.in-Err.ensures.stop (rw c.deref.ensures.value at c.in-Err.ensures.part)
 
 pub returns-in-Ok-clause-stop : goal.returns-in-Ok-clause-stop
