@@ -1,5 +1,5 @@
 -- What each entry of a list has, it keeps where entries are moved, dropped or added.
-use Rattle.std.proofs.Common.{◌≡◌, ℕ, zero, suc, Bool, true, false, List, [], ◌∷◌, Option, Some, None, refl, ap, subst}
+use Rattle.std.proofs.Common.{◌≤◌, length, lit≤, arith, ◌≡◌, ℕ, zero, suc, Bool, true, false, List, [], ◌∷◌, Option, Some, None, refl, ap, subst}
 use Rattle.std.specs.Prelude.{take, if◌then◌else◌}
 use Rattle.std.specs.List.{AllByRecursion}
 use Rattle.std.specs.Map.{lookup, lookup_entry, remove_entry}
@@ -8,6 +8,12 @@ use Rattle.std.specs.Option.{is_some, option_map_or}
 use Rattle.lru.specs.LruCache.{promoted}
 
 module _ {X : Type 0} where
+  -- no more are taken than asked for
+  pub taken_few : (n : ℕ) (xs : List X) → length (take n xs) ≤ n
+  taken_few zero xs = lit≤ tt
+  taken_few (suc n) [] = omega arith
+  taken_few (suc n) (x ∷ xs) = let few = taken_few n xs in omega (arith, few)
+
   pub all_take : (P : X → Type 0) (n : ℕ) (xs : List X) → AllByRecursion P xs → AllByRecursion P (take n xs)
   all_take P zero xs all = tt
   all_take P (suc n) [] all = tt

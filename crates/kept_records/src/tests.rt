@@ -1,4 +1,3 @@
-ghost use Rattle.std.specs.Prelude.{◌≤◌, length};
 ghost use Rattle.kept_records.specs.Entries.{IsKept};
 
 use super::*;
@@ -36,9 +35,8 @@ fn kept(port: u16) -> Kept
 }
 
 /// Keeps a flow that is not kept yet, and drops what is then too much.
-fn keep(list: &mut KeptList, flow: Flow, port: u16) -> Result<(), AllocError>
-    requires { length list.old ≤ ENTRY_LIMIT }
-{
+fn keep(list: &mut KeptList, flow: Flow, port: u16) -> Result<(), AllocError> {
+    list.settle();
     if list.peek(&flow).is_none() {
         list.keep(flow, kept(port))?;
         list.settle();
