@@ -1,6 +1,6 @@
-use Rattle.std.proofs.Common.{◌≡◌, ◌+◌, length, drop, sum, ap, ◌∙◌, arith}
+use Rattle.std.proofs.Common.{drop, sum, arith}
 use Rattle.std.proofs.lemmas.Grind.{common_steps}
-use Rattle.ipv4.specs.Checksum.{words, ones}
+use Rattle.ipv4.specs.Checksum.{words}
 use Rattle.ipv4.proofs.Ones.{ones-eight}
 use Rattle.ipv4.proofs.checksum.add_words.Goals as goal
 
