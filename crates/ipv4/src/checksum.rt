@@ -1,4 +1,4 @@
-ghost use Rattle.std.specs.Prelude.{◌≡◌, ◌≤◌, ◌<◌, ◌+◌, ◌%◌, ℕ, length, sum};
+ghost use Rattle.std.specs.Prelude.{◌≡◌, ◌≤◌, ◌<◌, ◌+◌, ◌%◌, ◌^◌, ℕ, length, sum};
 ghost use Rattle.ipv4.specs.Checksum.{words, ones, checksum, blanked};
 
 /// What a total is in 16 bits of one's complement.
@@ -21,10 +21,29 @@ fn add_around(total: u64, more: u64) -> u64
     if carried { wrapped + 1 } else { wrapped }
 }
 
-/// The sum of the words of fewer than eight bytes.
+/// So many bytes are summed before a carry is added at the lowest bit.
+const PART: usize = 1 << 16;
+
+/// A number that is the sum of the words of a part, in 16 bits of one's complement: four bytes a turn, without a carry, so
+/// that several turns are made as one.
+fn part_words(bytes: &[u8]) -> u64
+    requires { length bytes.now ≤ 2 ^ 16 }
+    ensures { (more : ℕ) → ones (result + more) ≡ ones (sum (words bytes.now) + more) }
+{
+    let mut total = 0;
+    let mut rest = bytes;
+    while let [a, b, c, d, after @ ..] = rest {
+        total += u32::from_be_bytes([*a, *b, *c, *d]) as u64;
+        rest = after;
+    }
+    total + few_words(rest)
+}
+
+/// The sum of the words of fewer than four bytes.
 fn few_words(bytes: &[u8]) -> u64
-    requires { length bytes.now < 8 }
-    ensures { result ≡ sum (words bytes.now) }
+    requires { length bytes.now < 4 }
+    ensures sum { result ≡ sum (words bytes.now) }
+    ensures few { result < 2 ^ 18 }
 {
     let mut total = 0;
     let mut rest = bytes;
@@ -45,11 +64,12 @@ pub fn add_words(total: u16, bytes: &[u8]) -> u16
 {
     let mut wide = total as u64;
     let mut rest = bytes;
-    while let [a, b, c, d, e, f, g, h, after @ ..] = rest {
-        wide = add_around(wide, u64::from_be_bytes([*a, *b, *c, *d, *e, *f, *g, *h]));
+    while rest.len() > PART {
+        let (part, after) = rest.split_at(PART);
+        wide = add_around(wide, part_words(part));
         rest = after;
     }
-    folded(add_around(wide, few_words(rest)))
+    folded(add_around(wide, part_words(rest)))
 }
 
 /// The same where the two bytes from the even place `i` count as zero, as the checksum's own field does.

@@ -15,6 +15,16 @@ fn sums_the_example_of_rfc_1071(rt: HostRuntime) {
 }
 
 #[test]
+fn sums_bytes_of_more_than_one_part(rt: HostRuntime) -> Result<(), Fail> {
+    let mut bytes = Vec::with_capacity(rt.alloc(), 131_073)?;
+    bytes.resize(65_540, 1)?;
+    assert_eq!(rt; sum(&bytes), 0xffff - 33_410);
+    bytes.resize(131_073, 1)?;
+    assert_eq!(rt; sum(&bytes), 0xffff - 513);
+    Ok(())
+}
+
+#[test]
 fn writes_a_packet_and_reads_it_with_padding(rt: HostRuntime) -> Result<(), Fail> {
     let mut out = Vec::new(rt.alloc());
     write(0xc000_0207, 0xc633_640a, &SYN[20..], &mut out)?;
