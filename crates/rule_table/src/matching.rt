@@ -1,4 +1,4 @@
-ghost use Rattle.std.specs.Prelude.{◌≡◌, ◌==◌, ◌≤◌, ℕ, IfSome, List, length, position};
+ghost use Rattle.std.specs.Prelude.{◌≡◌, ◌==◌, ◌≤◌, ◌+◌, ◌&&◌, ℕ, List, drop, length, option_map, position};
 ghost use Rattle.std.specs.List.{before_first};
 ghost use Rattle.weighted_pick.specs.Pick.{has_weight as has_weight_in};
 ghost use Rattle.http_head.specs.Parts.{IsHeadOf, IsWithin, part_bytes};
@@ -21,7 +21,8 @@ struct Asked<'a> {
     path: &'a [u8],
 }
 
-/// The number of the first of the rules that the head matches, None exactly where it matches none.
+/// The number of the first of the rules that the head matches, None exactly where it matches none. The head's cookies are
+/// gone through for the first rule that turns on one.
 #[tactic(auto, unfolding(crate::specs::Matching::matched_in))]
 pub fn first_match(rules: &[Rule], bytes: &[u8], head: &HttpHead) -> Option<u16>
     requires few { length rules.now ≤ 256 }
@@ -32,11 +33,39 @@ pub fn first_match(rules: &[Rule], bytes: &[u8], head: &HttpHead) -> Option<u16>
         host: host_of(bytes, head),
         path: path_of(bytes, head),
     };
-    let mut found = None;
     for (number, rule) in rules.iter().enumerate() {
-        if applies(rules, rule, bytes, head, asked, &mut found) {
+        if meets_asked(rule, bytes, asked) {
+            return match rule.cookie {
+                None => Some(number as u16),
+                Some(_) => first_from(rules, number, bytes, head, asked),
+            };
+        }
+    }
+    None
+}
+
+/// The same where the head matches none of the rules before this one.
+fn first_from(
+    rules: &[Rule],
+    first: usize,
+    bytes: &[u8],
+    head: &HttpHead,
+    asked: Asked<'_>,
+) -> Option<u16>
+    requires few { length rules.now ≤ 256 }
+    requires head { IsHeadOf bytes.now head.now }
+    requires asked { IsAskedOf (reading bytes.now) asked }
+    requires before { position (applies_to (reading bytes.now)) rules.now
+        ≡ option_map (λ n. first + n) (position (applies_to (reading bytes.now)) (drop first rules.now)) }
+    ensures { result ≡ position (applies_to (reading bytes.now)) rules.now }
+{
+    let cookies = Cookies::of(rules, bytes, head);
+    let mut number = first;
+    while let Some(rule) = rules.get(number) {
+        if meets_asked(rule, bytes, asked) && meets_cookie(rules, &rule.cookie, bytes, &cookies) {
             return Some(number as u16);
         }
+        number += 1;
     }
     None
 }
@@ -76,26 +105,12 @@ pub fn server_in(servers: &[Server], address: u32, port: u16) -> Option<u16>
     None
 }
 
-/// Whether all conditions of the rule, one of these, hold. The head's cookies are gone through for the first rule that
-/// asks for one, and what is found is kept for those after it.
-fn applies(
-    rules: &[Rule],
-    rule: &Rule,
-    bytes: &[u8],
-    head: &HttpHead,
-    asked: Asked<'_>,
-    found: &mut Option<Cookies>,
-) -> bool
-    requires few { length rules.now ≤ 256 }
-    requires head { IsHeadOf bytes.now head.now }
-    requires asked { IsAskedOf (reading bytes.now) asked }
-    requires found { IfSome found.old (AreCookiesOf rules.now bytes.now) }
-    ensures applies { result ≡ applies_to (reading bytes.now) rule.now }
-    ensures found { IfSome found.new (AreCookiesOf rules.now bytes.now) }
+/// Whether the conditions on host and path hold.
+fn meets_asked(rule: &Rule, bytes: &[u8], asked: Asked<'_>) -> bool
+    requires { IsAskedOf (reading bytes.now) asked }
+    ensures { result ≡ (meets_host_of rule.now.host (reading bytes.now) && meets_path_of rule.now.path (reading bytes.now)) }
 {
-    meets_host(&rule.host, bytes, asked)
-        && meets_path(&rule.path, bytes, asked)
-        && meets_cookie(rules, &rule.cookie, bytes, head, found)
+    meets_host(&rule.host, bytes, asked) && meets_path(&rule.path, bytes, asked)
 }
 
 /// Whether the host condition holds, if there is one.
@@ -124,30 +139,14 @@ fn meets_path(condition: &Option<Text>, bytes: &[u8], asked: Asked<'_>) -> bool
 }
 
 /// Whether the cookie condition holds, if there is one.
-fn meets_cookie(
-    rules: &[Rule],
-    condition: &Option<Text>,
-    bytes: &[u8],
-    head: &HttpHead,
-    found: &mut Option<Cookies>,
-) -> bool
+fn meets_cookie(rules: &[Rule], condition: &Option<Text>, bytes: &[u8], cookies: &Cookies) -> bool
     requires few { length rules.now ≤ 256 }
-    requires head { IsHeadOf bytes.now head.now }
-    requires found { IfSome found.old (AreCookiesOf rules.now bytes.now) }
-    ensures meets { result ≡ meets_cookie_of condition.now (reading bytes.now) }
-    ensures found { IfSome found.new (AreCookiesOf rules.now bytes.now) }
+    requires cookies { AreCookiesOf rules.now bytes.now cookies.now }
+    ensures { result ≡ meets_cookie_of condition.now (reading bytes.now) }
 {
-    let Some(cookie) = condition else {
-        return true;
-    };
-    match found {
-        Some(cookies) => cookies.has(rules, bytes, cookie),
-        None => {
-            let cookies = Cookies::of(rules, bytes, head);
-            let has = cookies.has(rules, bytes, cookie);
-            *found = Some(cookies);
-            has
-        }
+    match condition {
+        None => true,
+        Some(cookie) => cookies.has(rules, bytes, cookie),
     }
 }
 
