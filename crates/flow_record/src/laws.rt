@@ -1,6 +1,6 @@
-ghost use Rattle.std.specs.Prelude.{◌≡◌, ◌≤◌, IfOk, IsTrue};
+ghost use Rattle.std.specs.Prelude.{◌≡◌, IfOk, IsTrue};
 ghost use Rattle.flow_record.specs.Forms.{form, reading};
-ghost use Rattle.flow_record.specs.Records.{fits_key, gone_by};
+ghost use Rattle.flow_record.specs.Records.{HasForm, fits_key};
 
 use crate::record::Record;
 use flow_id::Key;
@@ -13,5 +13,5 @@ pub fn one_form(bytes: &[u8])
 /// A record that may stand under a key has a form.
 pub fn fitting_has_form(key: Key, record: Record)
     requires { IsTrue (fits_key key «record») }
-    ensures { gone_by «record» ≤ 2 }
+    ensures { HasForm «record» }
 {}

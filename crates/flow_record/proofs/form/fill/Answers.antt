@@ -10,4 +10,4 @@ pub returns-clause-filled : goal.returns-clause-filled
 returns-clause-filled c =
     let n : ℕ = length c.args.fields.now in
     let left = zeros_left n (2 + n - 2) (omega arith) in
-    ap (λ (xs : List ℕ). 1 ∷ c.args.kind ∷ (c.copy_from_slice.new.self ++ xs)) left ∙ ap (λ (xs : List ℕ). 1 ∷ c.args.kind ∷ (xs ++ replicate (24 - suc (suc n)) 0)) c.copy_from_slice.ensures.after
+    ap (λ (xs : List ℕ). c.args.version ∷ c.args.kind ∷ (c.copy_from_slice.new.self ++ xs)) left ∙ ap (λ (xs : List ℕ). c.args.version ∷ c.args.kind ∷ (xs ++ replicate (24 - suc (suc n)) 0)) c.copy_from_slice.ensures.after
