@@ -25,6 +25,8 @@ fn syn(number: u32) -> Record
         number: Num(number),
         mss: 1460,
         window: 64240,
+        scale: None,
+        sack: false,
     }
 }
 
