@@ -1,26 +1,28 @@
 -- The client's side of a handshake (RFC 9293, 3.5): what is kept of its SYN, and how the balancer answers it in place of
 -- a server.
-use Rattle.std.specs.Prelude.{◌≡◌, ℕ, [], unwrap_or}
+use Rattle.std.specs.Prelude.{◌≡◌, ℕ, [], Some, unwrap_or, option_map}
 use Rattle.seq_space.specs.Positions.{number_of}
 use Rattle.flow_id.specs.declared.key.Flow.{Flow}
 use Rattle.flow_id.specs.Hashes.{marked}
 use Rattle.flow_record.specs.declared.record.Record.{Record}
 use Rattle.flow_record.specs.declared.record.Record.TheVariants.{Syn}
-use Rattle.flow_record.specs.Records.{syn_number}
-use Rattle.tcp_segment.specs.OptionArea.{mss_only}
+use Rattle.flow_record.specs.Records.{syn_number, syn_scale}
+use Rattle.window_scale.specs.Windows.{own_shift}
+use Rattle.tcp_segment.specs.OptionArea.{no_options, shift_of}
 use Rattle.tcp_segment.specs.declared.segment.Head.{Head}
 use Rattle.tcp_segment.specs.declared.segment.Segment.{Segment}
 use Rattle.rule_table.specs.Setups.{SetupView}
 
 -- the record of a client's SYN; a client that gives no maximum segment size takes 536 bytes (RFC 9293, 3.7.1)
 abbrev pub syn_record_of : Head → Record
-syn_record_of head = Syn head.seq (unwrap_or head.options.mss 536) head.window
+syn_record_of head =
+    Syn head.seq (unwrap_or head.options.mss 536) head.window (shift_of head.options.scale) head.options.sack_permitted
 
 -- the balancer's first number towards the client of a flow
 abbrev pub forged_of : SetupView → Flow → ℕ
 forged_of setup flow = (marked setup.secret flow).forged
 
--- the answer to the SYN that the record is of
+-- the answer to the SYN that the record is of; the balancer scales its windows where the client scales its own
 unfoldable pub syn_ack_segment : SetupView → Flow → Record → Segment
 syn_ack_segment setup flow syn = record {
   source = setup.service.address;
@@ -33,7 +35,7 @@ syn_ack_segment setup flow syn = record {
     flags = 0x12;
     window = 14600;
     urgent = 0;
-    options = mss_only 1460;
+    options = record no_options { mss = Some 1460; scale = option_map (λ shift. own_shift) (syn_scale syn) };
   };
   body = [];
 }

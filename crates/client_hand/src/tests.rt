@@ -63,19 +63,47 @@ fn syn(options: Options) -> Head {
 }
 
 #[test]
-fn a_syn_is_kept_with_its_mss(rt: HostRuntime) {
+fn a_syn_is_kept_with_its_options(rt: HostRuntime) {
+    let none = Options::none();
     let given = Options {
         mss: Some(1400),
-        ..Options::none()
+        scale: Some(7),
+        sack_permitted: true,
     };
-    for (options, mss) in [(Options::none(), 536), (given, 1400)] {
+    let wide = Options {
+        scale: Some(15),
+        ..none
+    };
+    for (options, mss, scale, sack) in [
+        (none, 536, None, false),
+        (given, 1400, Some(7), true),
+        (wide, 536, Some(14), false),
+    ] {
         let record = Record::Syn {
             number: Num(1000),
             mss,
             window: 64240,
+            scale,
+            sack,
         };
         assert_eq!(rt; syn_record(&syn(options)), record);
     }
+}
+
+#[test]
+fn windows_are_scaled_where_the_client_scales_its_own(rt: HostRuntime) -> Result<(), Fail> {
+    let setup = setup(rt.alloc())?;
+    for (scale, own) in [(None, None), (Some(0), Some(7)), (Some(14), Some(7))] {
+        let given = Options {
+            scale,
+            ..Options::none()
+        };
+        let answer = syn_ack(rt.alloc(), &setup, &CLIENT, &syn_record(&syn(given)));
+        assert_eq!(rt; answer.head.options.scale, own);
+        assert_eq!(rt; answer.head.options.mss, Some(1460));
+        assert_eq!(rt; answer.head.window, 14600);
+    }
+    Ok(())
 }
 
 #[test]
