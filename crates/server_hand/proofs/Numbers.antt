@@ -12,10 +12,12 @@ use Rattle.std.proofs.lemmas.List.FromFn.{length-map-range_with_len, get_or-map-
 use Rattle.std.proofs.lemmas.Option.{slice_get_within, get_or_from_slice_get}
 use Rattle.seq_space.specs.Positions.{number_of}
 use Rattle.flow_record.specs.declared.record.Record.{Record}
-use Rattle.flow_record.specs.Records.{syn_number}
+use Rattle.flow_record.specs.Records.{syn_number, syn_window}
+use Rattle.window_scale.specs.Windows.{IsGreatest, counted, restated}
+use Rattle.window_scale.proofs.Greatest.{told-greatest}
 use Rattle.tcp_segment.specs.declared.segment.Segment.{Segment}
 use Rattle.rule_table.specs.Setups.{SetupView}
-use Rattle.server_hand.specs.Opening.{opening_ack, piece_size, piece_count, piece_segment, opening_pieces, opening_segments, IsOpeningAck, IsPiece, AnswersServer, OpeningNumbers}
+use Rattle.server_hand.specs.Opening.{server_shift, opening_ack, piece_size, piece_count, piece_segment, opening_pieces, opening_segments, IsOpeningAck, IsPiece, AnswersServer, OpeningNumbers}
 use Rattle.server_hand.proofs.Pieces.{piece_begins_within, sent_before, sent_before_next}
 
 -- a piece has at least one byte
@@ -27,10 +29,25 @@ piece_size_some (Some mss) = omega arith
 behind_first : (c n : ℕ) → number_of (number_of c 1) n ≡ number_of c (1 + n)
 behind_first c n = omega arith
 
+-- the server is told of the window of the client's SYN, which is not shifted, as much as it counts
+window_is_told : (syn opened : Record) → IsGreatest (restated (syn_window syn) 0 (server_shift syn opened)) (server_shift syn opened) (syn_window syn)
+window_is_told syn opened =
+    let reads = server_shift syn opened in
+    let whole : counted (syn_window syn) 0 ≡ syn_window syn = omega arith in
+    subst (IsGreatest (restated (syn_window syn) 0 reads) reads) whole (told-greatest (counted (syn_window syn) 0) reads)
+
 opening_ack_is : (setup : SetupView) (syn opened : Record) → IsOpeningAck setup syn opened (opening_ack setup syn opened)
 unfolding opening_ack
 opening_ack_is setup syn opened = record {
-  stands = record { source = refl; source_port = refl; target = refl; target_port = refl; seq = refl; ack = refl };
+  stands = record {
+    source = refl;
+    source_port = refl;
+    target = refl;
+    target_port = refl;
+    seq = refl;
+    ack = refl;
+    window = window_is_told syn opened;
+  };
   flags = refl;
   body = refl;
 }
@@ -50,6 +67,7 @@ piece_is setup syn opened size held count i some begins =
         target_port = refl;
         seq = behind_first (syn_number syn) (i * size);
         ack = refl;
+        window = window_is_told syn opened;
       };
       flags = refl;
       part = sym (ap (λ n. take n rest) long ∙ take_min size rest);

@@ -6,8 +6,9 @@ use Rattle.std.specs.Fork.{slice_chunk}
 use Rattle.std.specs.Int.{div_ceil}
 use Rattle.seq_space.specs.Positions.{number_of}
 use Rattle.flow_record.specs.declared.record.Record.{Record}
-use Rattle.flow_record.specs.Records.{syn_number, syn_mss, syn_window, open_server, open_port, open_number}
-use Rattle.tcp_segment.specs.OptionArea.{no_options, mss_only}
+use Rattle.flow_record.specs.Records.{syn_number, syn_mss, syn_window, syn_scale, open_server, open_port, open_number, open_scale}
+use Rattle.window_scale.specs.Windows.{IsGreatest, restated, shifts_by}
+use Rattle.tcp_segment.specs.OptionArea.{no_options}
 use Rattle.tcp_segment.specs.declared.segment.Segment.{Segment}
 use Rattle.rule_table.specs.Setups.{SetupView, server_of}
 
@@ -24,12 +25,16 @@ server_syn_segment setup syn server port = record {
     flags = 0x02;
     window = syn_window syn;
     urgent = 0;
-    options = mss_only (min 1460 (syn_mss syn));
+    options = record no_options { mss = Some (min 1460 (syn_mss syn)); scale = syn_scale syn };
   };
   body = [];
 }
 
--- the acknowledgment of the server's SYN, behind the client's
+-- by how many bits the server shifts the windows that it is sent
+abbrev pub server_shift : Record → Record → ℕ
+server_shift syn opened = (shifts_by (syn_scale syn) (open_scale opened)).server_reads
+
+-- the acknowledgment of the server's SYN, behind the client's; the window is that of the client's SYN
 unfoldable pub opening_ack : SetupView → Record → Record → Segment
 opening_ack setup syn opened = record {
   source = setup.service.address;
@@ -40,7 +45,7 @@ opening_ack setup syn opened = record {
     seq = record { 0 = number_of (syn_number syn) 1 };
     ack = record { 0 = number_of (open_number opened) 1 };
     flags = 0x10;
-    window = syn_window syn;
+    window = restated (syn_window syn) 0 (server_shift syn opened);
     urgent = 0;
     options = no_options;
   };
@@ -96,7 +101,8 @@ ServerSynNumbers =
     (setup : SetupView) (syn : Record) (server port : ℕ) → OpensTo setup syn server port (server_syn_segment setup syn server port)
 
 -- The segment goes to the server that was opened to, stands at this position of the client's stream, and acknowledges
--- position 1 of the server's.
+-- position 1 of the server's. The server counts no more by its window than the client gave in its SYN, and no greater
+-- field says so few.
 pub record StandsAt (setup : SetupView) (syn opened : Record) (position : ℕ) (s : Segment) : Type 0 where
   pub source : s.source ≡ setup.service.address
   pub source_port : s.head.source_port ≡ open_port opened
@@ -104,6 +110,7 @@ pub record StandsAt (setup : SetupView) (syn opened : Record) (position : ℕ) (
   pub target_port : s.head.target_port ≡ (server_of setup (open_server opened)).port
   pub seq : s.head.seq.0 ≡ number_of (syn_number syn) position
   pub ack : s.head.ack.0 ≡ number_of (open_number opened) 1
+  pub window : IsGreatest s.head.window (server_shift syn opened) (syn_window syn)
 
 -- The acknowledgment alone.
 pub record IsOpeningAck (setup : SetupView) (syn opened : Record) (s : Segment) : Type 0 where

@@ -1,4 +1,5 @@
 ghost use Rattle.std.specs.Prelude.{◌≡◌, ◌<◌, ◌≤◌, ◌*◌, length, IfOk, IsTrue};
+ghost use Rattle.tcp_segment.specs.Sending.{outs_of};
 ghost use Rattle.flow_record.specs.Records.{is_open, is_syn, open_server};
 ghost use Rattle.server_hand.specs.Opening.{opening_ack, opening_segments, piece_count, piece_segment, piece_size, server_syn_segment};
 
@@ -7,6 +8,7 @@ use rule_table::{Server, Setup};
 use seq_space::{Num, number};
 use std::alloc::{AllocError, Global};
 use tcp_segment::{ACK, Bytes, Head, Options, Outs, PSH, SYN, Segment};
+use window_scale::{restate, shifts};
 
 /// The largest piece of data that is sent to a server, and the maximum segment size that it is offered at most.
 const LARGEST_PIECE: u16 = 1460;
@@ -20,8 +22,8 @@ const DEFAULT_PIECE: u16 = 536;
 /// How many pieces are sent at once. What is left comes again from the client.
 const MOST_PIECES: usize = 10;
 
-/// The SYN that opens the connection to a server: the client's own, with its number and window and at most its maximum
-/// segment size, sent from this port of the service's address. It takes no memory.
+/// The SYN that opens the connection to a server: the client's own, with its number, window and scale and at most its
+/// maximum segment size, sent from this port of the service's address. It takes no memory.
 #[tactic(auto, unfolding(crate::specs::Opening::server_syn_segment))]
 pub fn server_syn(alloc: Global, setup: &Setup, syn: &Record, server: u16, port: u16) -> Segment
     requires syn { IsTrue (is_syn syn.now) }
@@ -32,6 +34,8 @@ pub fn server_syn(alloc: Global, setup: &Setup, syn: &Record, server: u16, port:
         number,
         mss,
         window,
+        scale,
+        ..
     } = *syn
     else {
         unreachable!()
@@ -52,6 +56,7 @@ pub fn server_syn(alloc: Global, setup: &Setup, syn: &Record, server: u16, port:
             urgent: 0,
             options: Options {
                 mss: Some(mss.min(LARGEST_PIECE)),
+                scale,
                 ..Options::none()
             },
         },
@@ -61,7 +66,7 @@ pub fn server_syn(alloc: Global, setup: &Setup, syn: &Record, server: u16, port:
 
 /// What a server's SYN-ACK is answered with: its acknowledgment, and then what is held of the client's stream, in pieces
 /// of the size that the server takes by the maximum segment size that it gave. There are ten pieces at most, and the
-/// last has the flag PSH. The one error is want of memory.
+/// last has the flag PSH. The window is that of the client's SYN, as the server reads it. The one error is want of memory.
 #[tactic(auto, unfolding(crate::specs::Opening::opening_segments))]
 pub fn opening(
     alloc: Global,
@@ -74,7 +79,7 @@ pub fn opening(
     requires syn { IsTrue (is_syn syn.now) }
     requires opened { IsTrue (is_open opened.now) }
     requires known { open_server opened.now < length setup.now.servers }
-    ensures { IfOk result (λ outs. outs ≡ opening_segments setup.now syn.now opened.now mss held.now) }
+    ensures { IfOk result (λ outs. outs ≡ outs_of (opening_segments setup.now syn.now opened.now mss held.now)) }
 {
     let size = size_of_pieces(mss);
     let count = held.len().div_ceil(size).min(MOST_PIECES);
@@ -84,7 +89,7 @@ pub fn opening(
         let piece = piece_of(alloc, &items[0], held, size, count, i)?;
         items.push(piece)?;
     }
-    Ok(Outs::new(items))
+    Ok(Outs::full(items))
 }
 
 /// How many bytes a piece has, 64 to 1460.
@@ -109,6 +114,7 @@ fn acknowledgment(alloc: Global, setup: &Setup, syn: &Record, opened: &Record) -
     let Record::Syn {
         number: first,
         window,
+        scale,
         ..
     } = *syn
     else {
@@ -118,6 +124,8 @@ fn acknowledgment(alloc: Global, setup: &Setup, syn: &Record, opened: &Record) -
         server,
         port,
         number: server_first,
+        scale: server_scale,
+        ..
     } = *opened
     else {
         unreachable!()
@@ -134,7 +142,7 @@ fn acknowledgment(alloc: Global, setup: &Setup, syn: &Record, opened: &Record) -
             seq: number(first, 1),
             ack: number(server_first, 1),
             flags: ACK,
-            window,
+            window: restate(window, 0, shifts(scale, server_scale).server_reads),
             urgent: 0,
             options: Options::none(),
         },

@@ -1,4 +1,5 @@
-ghost use Rattle.std.specs.Prelude.{◌≡◌, IfOk, length};
+ghost use Rattle.std.specs.Prelude.{◌≡◌, true, IfOk, IsTrue, length};
+ghost use Rattle.flow_record.specs.Records.{is_open, is_scale, is_syn, open_server};
 
 use crate::{choose, chosen_is_admitted, opening, opening_numbers, server_syn, server_syn_numbers};
 use flow_record::Record;
@@ -27,12 +28,16 @@ const SYN_RECORD: Record = Record::Syn {
     number: Num(1000),
     mss: 1460,
     window: 64240,
+    scale: None,
+    sack: false,
 };
 
 const OPENED: Record = Record::Open {
     server: 0,
     port: 2047,
     number: Num(70000),
+    scale: None,
+    sack: false,
 };
 
 /// The head of a request for the cart, 69 bytes.
@@ -189,5 +194,60 @@ fn a_longer_head_is_cut(rt: HostRuntime) -> Result<(), Fail> {
         pieces(&ten).last().map(shown),
         Some((1577, PSH | ACK, &held[..64]))
     );
+    Ok(())
+}
+
+/// A Syn and an Open with these scales, 14 where one is larger.
+fn scaled(syn: Option<u8>, opened: Option<u8>) -> (Record, Record)
+    ensures syn { IsTrue (is_syn result.0) }
+    ensures opened { IsTrue (is_open result.1) }
+    ensures server { open_server result.1 ≡ 0 }
+{
+    let syn = Record::Syn {
+        number: Num(1000),
+        mss: 1460,
+        window: 64240,
+        scale: at_most_14(syn),
+        sack: false,
+    };
+    let opened = Record::Open {
+        server: 0,
+        port: 2047,
+        number: Num(70000),
+        scale: at_most_14(opened),
+        sack: false,
+    };
+    (syn, opened)
+}
+
+fn at_most_14(scale: Option<u8>) -> Option<u8>
+    ensures { is_scale result ≡ true }
+{
+    match scale {
+        Some(shift) if shift <= 14 => Some(shift),
+        Some(_) => Some(14),
+        None => None,
+    }
+}
+
+#[test]
+fn the_server_is_told_the_window_by_its_own_reading(rt: HostRuntime) -> Result<(), Fail> {
+    let setup = setup(rt.alloc())?;
+    for (syn, opened, window) in [
+        (Some(7), Some(9), 501),
+        (Some(7), None, 64240),
+        (None, Some(9), 64240),
+    ] {
+        let (syn, opened) = scaled(syn, opened);
+        let outs = opening(rt.alloc(), &setup, &syn, &opened, Some(1460), CART)?;
+        for out in outs.as_slice() {
+            assert_eq!(rt; out.head.window, window);
+            assert_eq!(rt; out.head.options, Options::none());
+        }
+    }
+    let (syn, _) = scaled(Some(7), None);
+    let sent = server_syn(rt.alloc(), &setup, &syn, 0, 2047);
+    assert_eq!(rt; sent.head.options.scale, Some(7));
+    assert_eq!(rt; sent.head.window, 64240);
     Ok(())
 }
