@@ -1,10 +1,13 @@
 -- How segments are passed on between the two connections of a flow. The client's stream has the same numbers on both;
--- the server's has its own on the server's side, and those that the balancer forged on the client's.
+-- the server's has its own on the server's side, and those that the balancer forged on the client's. Windows are told to
+-- each side by the shift with which it reads them (RFC 7323, 2.3).
 use Rattle.std.specs.Prelude.{◌≡◌, ◌<◌, ℕ, ◌%◌, ◌^◌, true, false, if◌then◌else◌}
 use Rattle.seq_space.specs.Positions.{number_of, difference}
 use Rattle.flow_id.specs.declared.key.Flow.{Flow}
 use Rattle.flow_record.specs.declared.record.Record.{Record}
-use Rattle.flow_record.specs.Records.{open_server, open_port, open_number}
+use Rattle.flow_record.specs.Records.{syn_scale, open_server, open_port, open_number, open_scale}
+use Rattle.window_scale.specs.Windows.{IsGreatest, counted, restated, shifts_by}
+use Rattle.window_scale.specs.declared.scales.Shifts.{Shifts}
 use Rattle.tcp_segment.specs.Flags.{has_fin, has_syn, has_rst, has_psh, has_ack, has_urg}
 use Rattle.tcp_segment.specs.OptionArea.{no_options}
 use Rattle.tcp_segment.specs.declared.segment.Segment.{Segment}
@@ -18,9 +21,13 @@ moved from to n = number_of to (difference n (from % 2 ^ 32))
 abbrev pub kept_flags : ℕ → ℕ
 kept_flags flags = flags % 64
 
+-- by how many bits each side of a flow shifts its windows
+abbrev pub shifts_between : Record → Record → Shifts
+shifts_between syn opened = shifts_by (syn_scale syn) (open_scale opened)
+
 -- a client's segment as it goes to the server of the connection that was opened
-unfoldable pub to_server_segment : SetupView → Segment → ℕ → Record → Segment
-to_server_segment setup seg forged opened = record {
+unfoldable pub to_server_segment : SetupView → Segment → ℕ → Record → Record → Segment
+to_server_segment setup seg forged syn opened = record {
   source = setup.service.address;
   target = (server_of setup (open_server opened)).address;
   head = record {
@@ -29,7 +36,7 @@ to_server_segment setup seg forged opened = record {
     seq = seg.head.seq;
     ack = record { 0 = if has_ack seg.head.flags then moved forged (open_number opened) seg.head.ack.0 else 0 };
     flags = kept_flags seg.head.flags;
-    window = seg.head.window;
+    window = restated seg.head.window (shifts_between syn opened).client_gives (shifts_between syn opened).server_reads;
     urgent = seg.head.urgent;
     options = no_options;
   };
@@ -37,8 +44,8 @@ to_server_segment setup seg forged opened = record {
 }
 
 -- a server's segment as it goes to the client of the flow
-unfoldable pub to_client_segment : SetupView → Segment → ℕ → Record → Flow → Segment
-to_client_segment setup seg forged opened flow = record {
+unfoldable pub to_client_segment : SetupView → Segment → ℕ → Record → Record → Flow → Segment
+to_client_segment setup seg forged syn opened flow = record {
   source = setup.service.address;
   target = flow.address;
   head = record {
@@ -47,7 +54,7 @@ to_client_segment setup seg forged opened flow = record {
     seq = record { 0 = moved (open_number opened) forged seg.head.seq.0 };
     ack = record { 0 = if has_ack seg.head.flags then seg.head.ack.0 else 0 };
     flags = kept_flags seg.head.flags;
-    window = seg.head.window;
+    window = restated seg.head.window (shifts_between syn opened).server_gives (shifts_between syn opened).client_reads;
     urgent = seg.head.urgent;
     options = no_options;
   };
@@ -67,8 +74,9 @@ pub record KeepsFlags (was is : ℕ) : Type 0 where
   pub clear : is < 64
 
 -- The segment goes from the port that the flow owns to the server that was opened to, and is the client's, but for what
--- it acknowledges.
-pub record GoesToServer (setup : SetupView) (seg : Segment) (forged : ℕ) (opened : Record) (s : Segment) : Type 0 where
+-- it acknowledges and for its window: what the server counts by it is no more than the client gave, and no greater field
+-- counts so few.
+pub record GoesToServer (setup : SetupView) (seg : Segment) (forged : ℕ) (syn opened : Record) (s : Segment) : Type 0 where
   pub source : s.source ≡ setup.service.address
   pub source_port : s.head.source_port ≡ open_port opened
   pub target : s.target ≡ (server_of setup (open_server opened)).address
@@ -77,10 +85,12 @@ pub record GoesToServer (setup : SetupView) (seg : Segment) (forged : ℕ) (open
   pub ack : has_ack seg.head.flags ≡ true → s.head.ack.0 ≡ moved forged (open_number opened) seg.head.ack.0
   pub no_ack : has_ack seg.head.flags ≡ false → s.head.ack.0 ≡ 0
   pub flags : KeepsFlags seg.head.flags s.head.flags
+  pub window : IsGreatest s.head.window (shifts_between syn opened).server_reads (counted seg.head.window (shifts_between syn opened).client_gives)
   pub body : s.body ≡ seg.body
 
--- The segment goes from the service to the client, and is the server's, but for its sequence number.
-pub record GoesToClient (setup : SetupView) (seg : Segment) (forged : ℕ) (opened : Record) (flow : Flow) (s : Segment) : Type 0 where
+-- The segment goes from the service to the client, and is the server's, but for its sequence number and for its window,
+-- by which the client counts as much of what the server gave.
+pub record GoesToClient (setup : SetupView) (seg : Segment) (forged : ℕ) (syn opened : Record) (flow : Flow) (s : Segment) : Type 0 where
   pub source : s.source ≡ setup.service.address
   pub source_port : s.head.source_port ≡ setup.service.port
   pub target : s.target ≡ flow.address
@@ -89,17 +99,18 @@ pub record GoesToClient (setup : SetupView) (seg : Segment) (forged : ℕ) (open
   pub ack : has_ack seg.head.flags ≡ true → s.head.ack.0 ≡ seg.head.ack.0
   pub no_ack : has_ack seg.head.flags ≡ false → s.head.ack.0 ≡ 0
   pub flags : KeepsFlags seg.head.flags s.head.flags
+  pub window : IsGreatest s.head.window (shifts_between syn opened).client_reads (counted seg.head.window (shifts_between syn opened).server_gives)
   pub body : s.body ≡ seg.body
 
 abbrev pub ToServerNumbers : Type 0
 ToServerNumbers =
-    (setup : SetupView) (seg : Segment) (forged : ℕ) (opened : Record)
-    → GoesToServer setup seg forged opened (to_server_segment setup seg forged opened)
+    (setup : SetupView) (seg : Segment) (forged : ℕ) (syn opened : Record)
+    → GoesToServer setup seg forged syn opened (to_server_segment setup seg forged syn opened)
 
 abbrev pub ToClientNumbers : Type 0
 ToClientNumbers =
-    (setup : SetupView) (seg : Segment) (forged : ℕ) (opened : Record) (flow : Flow)
-    → GoesToClient setup seg forged opened flow (to_client_segment setup seg forged opened flow)
+    (setup : SetupView) (seg : Segment) (forged : ℕ) (syn opened : Record) (flow : Flow)
+    → GoesToClient setup seg forged syn opened flow (to_client_segment setup seg forged syn opened flow)
 
 -- ---- positions
 
@@ -110,13 +121,13 @@ KeepsPosition = (from to p : ℕ) → moved from to (number_of from p) ≡ numbe
 -- a client that acknowledges a position of the stream that the balancer forges acknowledges this position of the server's
 abbrev pub AcknowledgesSamePosition : Type 0
 AcknowledgesSamePosition =
-    (setup : SetupView) (seg : Segment) (forged : ℕ) (opened : Record) (p : ℕ) → has_ack seg.head.flags ≡ true
+    (setup : SetupView) (seg : Segment) (forged : ℕ) (syn opened : Record) (p : ℕ) → has_ack seg.head.flags ≡ true
     → seg.head.ack.0 ≡ number_of forged p
-    → (to_server_segment setup seg forged opened).head.ack.0 ≡ number_of (open_number opened) p
+    → (to_server_segment setup seg forged syn opened).head.ack.0 ≡ number_of (open_number opened) p
 
 -- a server's segment at a position of its stream stands at this position of the one that the balancer forges
 abbrev pub StandsAtSamePosition : Type 0
 StandsAtSamePosition =
-    (setup : SetupView) (seg : Segment) (forged : ℕ) (opened : Record) (flow : Flow) (p : ℕ)
+    (setup : SetupView) (seg : Segment) (forged : ℕ) (syn opened : Record) (flow : Flow) (p : ℕ)
     → seg.head.seq.0 ≡ number_of (open_number opened) p
-    → (to_client_segment setup seg forged opened flow).head.seq.0 ≡ number_of forged p
+    → (to_client_segment setup seg forged syn opened flow).head.seq.0 ≡ number_of forged p

@@ -1,4 +1,5 @@
-ghost use Rattle.std.specs.Prelude.{◌≡◌, IfOk, length};
+ghost use Rattle.std.specs.Prelude.{◌≡◌, true, IfOk, IsTrue, length};
+ghost use Rattle.flow_record.specs.Records.{is_open, is_scale, is_syn, open_server};
 
 use crate::{to_client, to_client_numbers, to_server, to_server_numbers, translations};
 use flow_id::Flow;
@@ -30,10 +31,20 @@ const CLIENT: Flow = Flow {
     life: 0,
 };
 
+const SYN_RECORD: Record = Record::Syn {
+    number: Num(1000),
+    mss: 1460,
+    window: 64240,
+    scale: None,
+    sack: false,
+};
+
 const OPENED: Record = Record::Open {
     server: 0,
     port: 1027,
     number: Num(9000),
+    scale: None,
+    sack: false,
 };
 
 /// A setup of one server, 10.0.0.1:8080, to which all requests go.
@@ -81,7 +92,7 @@ fn from_client(alloc: Global, ack: u32, flags: u8) -> Segment
 fn a_client_acknowledges_in_the_servers_numbers(rt: HostRuntime) -> Result<(), Fail> {
     let setup = setup(rt.alloc())?;
     let seg = from_client(rt.alloc(), 5101, ACK);
-    let sent = to_server(&setup, seg, Num(5000), &OPENED);
+    let sent = to_server(&setup, seg, Num(5000), &SYN_RECORD, &OPENED);
     let mut out = Vec::new(rt.alloc());
     write(&sent, &mut out)?;
     let want = [
@@ -101,15 +112,21 @@ fn what_is_acknowledged_wraps(rt: HostRuntime) -> Result<(), Fail> {
         server: 0,
         port: 1027,
         number: Num(100),
+        scale: None,
+        sack: false,
     };
     let seg = from_client(rt.alloc(), 205, ACK);
     assert_eq!(rt;
-        to_server(&setup, seg, Num(4294967000), &opened).head.ack,
+        to_server(&setup, seg, Num(4294967000), &SYN_RECORD, &opened)
+            .head
+            .ack,
         Num(601)
     );
     let reset = from_client(rt.alloc(), 205, RST);
     assert_eq!(rt;
-        to_server(&setup, reset, Num(4294967000), &opened).head.ack,
+        to_server(&setup, reset, Num(4294967000), &SYN_RECORD, &opened)
+            .head
+            .ack,
         Num(0)
     );
     translations();
@@ -134,7 +151,7 @@ fn a_server_speaks_in_the_forged_numbers(rt: HostRuntime) -> Result<(), Fail> {
         },
         body: Bytes::new(b"hello".to_vec(rt.alloc())?),
     };
-    let sent = to_client(&setup, seg, Num(4294967295), &OPENED, &CLIENT);
+    let sent = to_client(&setup, seg, Num(4294967295), &SYN_RECORD, &OPENED, &CLIENT);
     let want = Head {
         source_port: 80,
         target_port: 40000,
@@ -152,5 +169,61 @@ fn a_server_speaks_in_the_forged_numbers(rt: HostRuntime) -> Result<(), Fail> {
     );
     assert_eq!(rt; sent.body.as_slice(), b"hello".as_slice());
     to_client_numbers();
+    Ok(())
+}
+
+fn at_most_14(scale: Option<u8>) -> Option<u8>
+    ensures { is_scale result ≡ true }
+{
+    match scale {
+        Some(shift) if shift <= 14 => Some(shift),
+        Some(_) => Some(14),
+        None => None,
+    }
+}
+
+/// A Syn and an Open with these scales, 14 where one is larger.
+fn scaled(syn: Option<u8>, opened: Option<u8>) -> (Record, Record)
+    ensures syn { IsTrue (is_syn result.0) }
+    ensures opened { IsTrue (is_open result.1) }
+    ensures server { open_server result.1 ≡ 0 }
+{
+    let syn = Record::Syn {
+        number: Num(1000),
+        mss: 1460,
+        window: 64240,
+        scale: at_most_14(syn),
+        sack: false,
+    };
+    let opened = Record::Open {
+        server: 0,
+        port: 1027,
+        number: Num(9000),
+        scale: at_most_14(opened),
+        sack: false,
+    };
+    (syn, opened)
+}
+
+#[test]
+fn windows_are_told_as_they_are_read(rt: HostRuntime) -> Result<(), Fail> {
+    let setup = setup(rt.alloc())?;
+    for (syn, opened, given, to_the_server, to_the_client) in [
+        (Some(7), Some(9), 502, 502, 2008),
+        (Some(7), Some(9), 1000, 1000, 4000),
+        (Some(7), None, 502, 64256, 3),
+        (Some(7), None, 64240, 65535, 501),
+        (None, None, 64240, 64240, 64240),
+    ] {
+        let (syn, opened) = scaled(syn, opened);
+        let mut seg = from_client(rt.alloc(), 5101, ACK);
+        seg.head.window = given;
+        let sent = to_server(&setup, seg, Num(5000), &syn, &opened);
+        assert_eq!(rt; sent.head.window, to_the_server);
+        let mut seg = from_client(rt.alloc(), 5101, ACK);
+        seg.head.window = given;
+        let sent = to_client(&setup, seg, Num(5000), &syn, &opened, &CLIENT);
+        assert_eq!(rt; sent.head.window, to_the_client);
+    }
     Ok(())
 }
