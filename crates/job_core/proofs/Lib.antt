@@ -1,3 +1,4 @@
+mod Alike
 pub mod Asks
 mod Candidates
 pub mod Changes
@@ -8,3 +9,4 @@ mod Lines
 mod Numbers
 pub mod Openings
 pub mod Origins
+pub mod Sames

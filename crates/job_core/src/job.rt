@@ -1,7 +1,11 @@
-ghost use Rattle.std.specs.Prelude.{◌≡◌, ◌≤◌, [], ◌∷◌, ◌++◌, length, IfOk, OnErr};
+ghost use Rattle.std.specs.Prelude.{◌≡◌, ◌≤◌, ℕ, List, [], ◌∷◌, ◌++◌, true, length, IfOk, OnErr, IsTrue};
+ghost use Rattle.flow_record.specs.Records.{is_syn as is_syn_record};
+ghost use Rattle.job_core.specs.Rooms.{AsksOrPasses, IsReady, Leaves, MayNeedMemory, held_by_step};
+ghost use Rattle.job_core.specs.declared.moves.HeldChange.TheVariants.{Same};
+ghost use Rattle.tcp_segment.specs.Sending.{outs_of};
 ghost use Rattle.job_core.specs.declared.moves.Answer.TheVariants.{Decided, Absent};
-ghost use Rattle.job_core.specs.Jobs.{IsAnswered, IsTaken, KnowsServers, answered as answered_by, MayAnswer, begun, first_ask, flow_by, mark_of, marked_job, move_after};
-ghost use Rattle.job_core.specs.Phases.{AtPhase, IsKnownOpen, Leads, passed_from};
+ghost use Rattle.job_core.specs.Jobs.{GoesOn, IsAnswered, IsTaken, KnowsServers, answered as answered_by, MayAnswer, begun, first_ask, flow_by, is_get, mark_of, marked_job, move_after};
+ghost use Rattle.job_core.specs.Phases.{AtPhase, IsKnownOpen, Leads, StepsTo, passed_from, step_move};
 ghost use Rattle.job_core.specs.declared.verdict.Verdict.TheVariants.{Forwarded};
 ghost use Rattle.job_core.specs.Moves.{ends};
 
@@ -79,6 +83,20 @@ impl Job {
         self.ask
     }
 
+    /// Whom the segment comes from.
+    pub fn aim(&self) -> Aim
+        ensures { result ≡ self.now.aim }
+    {
+        self.aim
+    }
+
+    /// What was answered to its asks so far, lent.
+    pub fn answers(&self) -> &[Answer]
+        ensures { result.now ≡ self.now.answers }
+    {
+        self.answers.as_slice()
+    }
+
     /// The flow that the segment is known to be of, None exactly for a server's segment before the owner of its port is
     /// decided.
     pub fn flow(&self) -> Option<Flow>
@@ -143,12 +161,119 @@ impl Job {
                 let next = Next::End { verdict, outs };
                 Ok(Move { next, held })
             }
-            Step::ToServer { flow, opened } => {
-                self.pass(setup, forged, flow, opened, Side::Client)
+            Step::ToServer { flow, syn, opened } => {
+                self.pass(setup, forged, flow, syn, opened, Side::Client)
             }
-            Step::ToClient { flow, opened } => {
-                self.pass(setup, forged, flow, opened, Side::Server)
+            Step::ToClient { flow, syn, opened } => {
+                self.pass(setup, forged, flow, syn, opened, Side::Server)
             }
+        }
+    }
+
+    /// The table's next move like `answer_with`, where a record is looked for and this one is decided. What is held does not
+    /// matter and stays. The room is empty and there is room for one segment. A segment that is passed on is sent in it and
+    /// leaves nothing of it; every other move leaves it as it was. It takes no memory.
+    pub fn answer_known(
+        &mut self,
+        setup: &Setup,
+        forged: &ForgedNumbers,
+        item: Record,
+        room: &mut Outs,
+    ) -> Move
+        requires get { IsTrue (is_get self.old.ask) }
+        requires may { MayAnswer setup.now self.old.ask (Decided item) }
+        requires secret { forged.now ≡ setup.now.secret }
+        requires room { IsReady room.old }
+        ensures answered { (held : List ℕ) → IsAnswered setup.now self.old (Decided item) held result self.new }
+        ensures same { result.held ≡ Same }
+        ensures room { Leaves result.next room.old room.new }
+    {
+        let step = self.known(setup, item);
+        self.moved_in(setup, forged, Answer::Decided(item), step, room)
+    }
+
+    /// The table's next move like `answer`, where whatever is held this is an ask that leaves what is held, or the end of a
+    /// segment that is passed on. The room is empty and there is room for one segment. A segment that is passed on is sent in
+    /// it and leaves nothing of it; an ask leaves it as it was. It takes no memory.
+    pub fn answer_in(&mut self, setup: &Setup, got: Answer, room: &mut Outs) -> Move
+        requires may { MayAnswer setup.now self.old.ask got }
+        requires servers { KnowsServers setup.now self.old }
+        requires moves { (held : List ℕ) → AsksOrPasses (move_after setup.now self.old got held) }
+        requires room { IsReady room.old }
+        ensures answered { (held : List ℕ) → IsAnswered setup.now self.old got held result self.new }
+        ensures room { Leaves result.next room.old room.new }
+    {
+        let Ok(step) = self.step(setup, got, &[]) else {
+            unreachable!()
+        };
+        let forged = ForgedNumbers::new(self.alloc, setup.secret());
+        self.moved_in(setup, &forged, got, step, room)
+    }
+
+    /// The move of a step that the answer leads to. A segment that is passed on is sent in the room. It takes no memory.
+    fn moved_in(
+        &mut self,
+        setup: &Setup,
+        forged: &ForgedNumbers,
+        got: Answer,
+        step: Step,
+        room: &mut Outs,
+    ) -> Move
+        requires steps { StepsTo setup.now self.old.aim self.old.segment.head.flags (self.old.answers ++ got ∷ []) step }
+        requires secret { forged.now ≡ setup.now.secret }
+        requires room { IsReady room.old }
+        ensures moves { result ≡ step_move setup.now self.old.segment step }
+        ensures goes_on { GoesOn self.old got result.next self.new }
+        ensures room { Leaves result.next room.old room.new }
+    {
+        match step {
+            Step::Asks { ask, phase, held } => {
+                self.go_on(got, ask, phase);
+                let next = Next::Ask(ask);
+                Move { next, held }
+            }
+            Step::Ends {
+                verdict,
+                outs,
+                held,
+            } => {
+                let next = Next::End { verdict, outs };
+                Move { next, held }
+            }
+            Step::ToServer { flow, syn, opened } => {
+                let number = Num(forged.look(&flow));
+                let seg = self.take_segment();
+                sent_in(room, to_server(setup, seg, number, &syn, &opened))
+            }
+            Step::ToClient { flow, syn, opened } => {
+                let number = Num(forged.look(&flow));
+                let seg = self.take_segment();
+                sent_in(room, to_client(setup, seg, number, &syn, &opened, &flow))
+            }
+        }
+    }
+
+    /// What a decided record leads to that was looked for. It takes no memory.
+    #[tactic(auto, unfolding(crate::specs::Table::next_move))]
+    fn known(&self, setup: &Setup, item: Record) -> Step
+        requires get { IsTrue (is_get self.now.ask) }
+        requires may { MayAnswer setup.now self.now.ask (Decided item) }
+        ensures moves { (held : List ℕ) → step_move setup.now self.now.segment result ≡ move_after setup.now self.now (Decided item) held }
+        ensures steps { StepsTo setup.now self.now.aim self.now.segment.head.flags (self.now.answers ++ Decided item ∷ []) result }
+        ensures same { held_by_step result ≡ Same }
+    {
+        let (alloc, seg) = (self.alloc, &self.seg);
+        match (self.phase, self.aim, item) {
+            (Phase::Finding { flow }, _, _) => asks_open(flow, item),
+            (Phase::Owning, _, Record::Port(flow)) => asks_syn(flow),
+            (Phase::Resolving { flow }, aim, _) => resolved(alloc, aim, flow, item, seg),
+            (Phase::Looking { flow, syn }, Aim::Client(_), _) => {
+                client_of_open(flow, syn, item, seg)
+            }
+            (Phase::Looking { flow, syn }, Aim::Server { .. }, _) => {
+                server_of_open(flow, syn, item, seg)
+            }
+            _ => unreachable!(),
         }
     }
 
@@ -195,12 +320,14 @@ impl Job {
         setup: &Setup,
         forged: &mut ForgedNumbers,
         flow: Flow,
+        syn: Record,
         opened: Record,
         from: Side,
     ) -> Result<Move, AllocError>
+        requires syn { is_syn_record syn ≡ true }
         requires opened { IsKnownOpen setup.now opened }
         requires secret { forged.old ≡ setup.now.secret }
-        ensures passed { IfOk result (λ m. m ≡ ends Forwarded (passed_from from setup.now flow self.old.segment opened ∷ [])) }
+        ensures passed { IfOk result (λ m. m ≡ ends Forwarded (passed_from from setup.now flow self.old.segment syn opened ∷ [])) }
         ensures refused { OnErr result (self.new ≡ self.old) }
         ensures forged { forged.new ≡ forged.old }
     {
@@ -208,13 +335,13 @@ impl Job {
         let forged = Num(forged.forged(&flow)?);
         let seg = self.take_segment();
         let passed = match from {
-            Side::Client => to_server(setup, seg, forged, &opened),
-            Side::Server => to_client(setup, seg, forged, &opened, &flow),
+            Side::Client => to_server(setup, seg, forged, &syn, &opened),
+            Side::Server => to_client(setup, seg, forged, &syn, &opened, &flow),
         };
         let Ok(()) = items.push(passed) else {
             unreachable!()
         };
-        let outs = Outs::new(items);
+        let outs = Outs::full(items);
         let next = Next::End {
             verdict: Verdict::Forwarded,
             outs,
@@ -243,7 +370,8 @@ impl Job {
         requires may { MayAnswer setup.now self.now.ask got }
         requires servers { KnowsServers setup.now self.now }
         requires held { length held.now ≤ 14600 }
-        ensures { IfOk result (Leads setup.now self.now.aim self.now.segment (self.now.answers ++ got ∷ []) (move_after setup.now self.now got held.now)) }
+        ensures leads { IfOk result (Leads setup.now self.now.aim self.now.segment (self.now.answers ++ got ∷ []) (move_after setup.now self.now got held.now)) }
+        ensures refused { OnErr result (MayNeedMemory (move_after setup.now self.now got held.now)) }
     {
         match got {
             Answer::Decided(item) => self.decided(setup, item, held),
@@ -257,7 +385,8 @@ impl Job {
     fn decided(&self, setup: &Setup, item: Record, held: &[u8]) -> Result<Step, AllocError>
         requires may { MayAnswer setup.now self.now.ask (Decided item) }
         requires servers { KnowsServers setup.now self.now }
-        ensures { IfOk result (Leads setup.now self.now.aim self.now.segment (self.now.answers ++ Decided item ∷ []) (move_after setup.now self.now (Decided item) held.now)) }
+        ensures leads { IfOk result (Leads setup.now self.now.aim self.now.segment (self.now.answers ++ Decided item ∷ []) (move_after setup.now self.now (Decided item) held.now)) }
+        ensures refused { OnErr result (MayNeedMemory (move_after setup.now self.now (Decided item) held.now)) }
     {
         let (alloc, seg) = (self.alloc, &self.seg);
         match (self.phase, self.aim, item) {
@@ -272,7 +401,7 @@ impl Job {
                 Ok(server_of_open(flow, syn, item, seg))
             }
             (Phase::Opening { syn, .. }, _, _) => opened_by(alloc, setup, syn, item, seg, held),
-            (Phase::Passing { flow, opened, .. }, aim, _) => Ok(passing(aim, flow, opened)),
+            (Phase::Passing { flow, syn, opened }, aim, _) => Ok(passing(aim, flow, syn, opened)),
             (Phase::Ending { flow, .. }, aim, _) => ended(alloc, setup, aim, flow),
             (Phase::Choosing { flow, syn }, _, _) => {
                 chosen(alloc, setup, flow, syn, seg, held, item)
@@ -296,7 +425,8 @@ impl Job {
     fn absent(&self, setup: &Setup, held: &[u8]) -> Result<Step, AllocError>
         requires may { MayAnswer setup.now self.now.ask Absent }
         requires held { length held.now ≤ 14600 }
-        ensures { IfOk result (Leads setup.now self.now.aim self.now.segment (self.now.answers ++ Absent ∷ []) (move_after setup.now self.now Absent held.now)) }
+        ensures leads { IfOk result (Leads setup.now self.now.aim self.now.segment (self.now.answers ++ Absent ∷ []) (move_after setup.now self.now Absent held.now)) }
+        ensures refused { OnErr result (MayNeedMemory (move_after setup.now self.now Absent held.now)) }
     {
         let (alloc, seg) = (self.alloc, &self.seg);
         match (self.phase, self.aim) {
@@ -311,6 +441,23 @@ impl Job {
             }
             _ => unreachable!(),
         }
+    }
+}
+
+/// The end of a segment that is passed on, in the room that is lent.
+fn sent_in(room: &mut Outs, passed: Segment) -> Move
+    requires { IsReady room.old }
+    ensures passed { result ≡ ends Forwarded (passed ∷ []) }
+    ensures room { room.new ≡ outs_of [] }
+{
+    let outs = room.fill(passed);
+    let next = Next::End {
+        verdict: Verdict::Forwarded,
+        outs,
+    };
+    Move {
+        next,
+        held: HeldChange::Same,
     }
 }
 
