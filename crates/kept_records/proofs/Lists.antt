@@ -1,10 +1,9 @@
 -- What each entry of a list has, it keeps where entries are moved, dropped or added.
-use Rattle.std.proofs.Common.{◌≤◌, length, lit≤, arith, ◌≡◌, ℕ, zero, suc, Bool, true, false, List, [], ◌∷◌, Option, Some, None, refl, ap, subst}
+use Rattle.std.proofs.Common.{◌≤◌, length, lit≤, arith, ℕ, zero, suc, Bool, true, false, List, [], ◌∷◌, Option, Some, None}
 use Rattle.std.specs.Prelude.{take, if◌then◌else◌}
 use Rattle.std.specs.List.{AllByRecursion}
-use Rattle.std.specs.Map.{lookup, lookup_entry, remove_entry}
-use Rattle.lru.proofs.CallerLemmas.{Contains-lookup_entry}
-use Rattle.std.specs.Option.{is_some, option_map_or}
+use Rattle.std.specs.Map.{lookup_entry, remove_entry}
+use Rattle.std.specs.Option.{option_map_or}
 use Rattle.lru.specs.LruCache.{promoted}
 
 module _ {X : Type 0} where

@@ -1,8 +1,8 @@
 -- The index of owners goes with the entries: as one is added, as one is dropped, and as one is looked for.
-use Rattle.std.proofs.Common.{◌≡◌, ℕ, Bool, true, false, ◌==◌, ◌&&◌, List, [], ◌∷◌, Option, Some, None, refl, sym, ◌∙◌, ap, subst}
+use Rattle.std.proofs.Common.{◌≡◌, ℕ, Bool, true, false, ◌==◌, [], ◌∷◌, Option, Some, None, refl, sym, ◌∙◌, ap, subst}
 use Rattle.std.specs.Prelude.{cond, if◌then◌else◌}
 use Rattle.std.specs.List.{AllByRecursion}
-use Rattle.std.specs.Map.{lookup, lookup_entry}
+use Rattle.std.specs.Map.{lookup_entry}
 use Rattle.lru.proofs.CallerLemmas.{Contains-lookup_entry}
 use Rattle.std.proofs.lemmas.Bool.{eqb-true, eq-eqb, and_parts, and_from, false≢true}
 use Rattle.std.proofs.lemmas.Option.{none-some, same_Some}

@@ -25,11 +25,15 @@ fn kept(port: u16) -> Kept
             number: Num(1000),
             mss: 1460,
             window: 64240,
+            scale: None,
+            sack: false,
         },
         opened: Record::Open {
             server: 1,
             port,
             number: Num(5000),
+            scale: None,
+            sack: false,
         },
     }
 }

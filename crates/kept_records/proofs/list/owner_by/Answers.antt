@@ -1,7 +1,6 @@
-use Rattle.std.proofs.Common.{◌≡◌, Some, None, Option, Bool, false, true, sym, ◌∙◌, ap}
+use Rattle.std.proofs.Common.{Some, None, Bool, sym, ◌∙◌, ap}
 use Rattle.std.specs.Prelude.{if◌then◌else◌}
 use Rattle.std.specs.Option.{option_copied}
-use Rattle.flow_id.specs.declared.key.Flow.{Flow}
 use Rattle.kept_records.proofs.Places.{found, told, found_is}
 use Rattle.kept_records.proofs.list.owner_by.Goals as goal
 

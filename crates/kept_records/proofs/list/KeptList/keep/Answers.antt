@@ -1,4 +1,4 @@
-use Rattle.std.proofs.Common.{◌≡◌, ◌≤◌, ◌-◌, ◌∷◌, None, List, length, sym, ap, ◌∙◌, arith, subst}
+use Rattle.std.proofs.Common.{◌≤◌, ◌-◌, ◌∷◌, length, sym, ap, ◌∙◌, arith, subst}
 use Rattle.flow_id.specs.Keys.{same_flow}
 use Rattle.kept_records.specs.Entries.{AreKept}
 use Rattle.kept_records.specs.Owners.{AreOwners, Adds}
