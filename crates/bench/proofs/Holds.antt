@@ -36,7 +36,8 @@ use Rattle.rule_table.specs.Setups.{SetupView, IsSetup}
 use Rattle.tcp_segment.specs.declared.segment.Segment.{Segment}
 use Rattle.bench.specs.declared.call.Call.{Call}
 use Rattle.bench.specs.declared.call.Call.TheVariants.{Take, Step, Crash, Fail}
-use Rattle.bench.specs.Bench.{JobState, Desk, Held, BenchState, empty_desk, desk_at, job_at, held_of, put_held, drop_held, held_after, held_by, move_of, moved_by, answer_of, says, stepped_by, stepped, step_at, served}
+use Rattle.bench.specs.declared.call.Reply.{Reply}
+use Rattle.bench.specs.Bench.{JobState, Desk, Held, BenchState, empty_desk, desk_at, job_at, held_of, put_held, drop_held, held_after, held_by, begun, taken, settle, move_of, moved, answer_of, says, stepped_by, stepped, step_at, served}
 use Rattle.bench.specs.Calls.{IsCall, AreCalls}
 use Rattle.bench.specs.Histories.{Ended, Mark, opening, after_all, bench_after, log_after, mark_of, ended_at, ended_by, step_ends, EndedSo, Ends, Decides}
 use Rattle.bench.specs.JobLaws.{Supported, Leaves}
@@ -45,10 +46,12 @@ use Rattle.bench.specs.MoveLaws.Becomes.{stays, drops, grows}
 use Rattle.bench.specs.MoveLaws.Built.{nothing, added}
 use Rattle.bench.proofs.Begun.{jobs_known}
 use Rattle.bench.proofs.Causes.{setup_all}
-use Rattle.bench.proofs.Dones.{are_before, supported_more}
+use Rattle.bench.proofs.Dones.{are_before, allowed_now, supported_more}
 use Rattle.bench.proofs.Growths.{after_more, log_more, are_first, are_last}
 use Rattle.bench.proofs.Histories.{absence_law}
 use Rattle.bench.proofs.Proposals.{put_own}
+use Rattle.bench.proofs.Settles.{settle_keeps}
+use Rattle.bench.proofs.Stands.{Stands, stands_on, moved_knows, begun_knows}
 use Rattle.bench.proofs.Supports.{client_second}
 use Rattle.bench.proofs.Takings.{handled_law, handled_aimed, handles_own, took_weaker, leaves_remains}
 
@@ -209,18 +212,24 @@ changed_once (Some flow) change.Same held once = once
 changed_once (Some flow) (change.Set bytes) held once = put_once held flow bytes once
 changed_once (Some flow) change.Drop held once = drop_once held flow once
 
-stepped_once : (setup : SetupView) (i : ℕ) (job : JobState) (held : Held) (w : Walk) (o : Option Answer) → Once held → Once (stepped_by setup i job held w o).0.held
-stepped_once setup i job held w None once = once
-stepped_once setup i job held w (Some a) once = changed_once (flow_by job.aim job.answers) (move_of setup i job a held).held held once
+settle_once : (setup : SetupView) (i : ℕ) (at : Desk × Reply) → Once at.0.held → Once (settle setup i at).0.held
+settle_once setup i at once =
+    settle_keeps setup i (λ (x : Desk × Reply). Once x.0.held)
+    (λ x turn is has. changed_once (flow_by turn.0.aim turn.0.answers) (move_of setup i turn.0 (Decided turn.1.item) x.0.held).held x.0.held has) at once
+
+stepped_once : (setup : SetupView) (i : ℕ) (job : JobState) (desk : Desk) (w : Walk) (o : Option Answer) → Once desk.held → Once (stepped_by setup i job desk w o).0.held
+stepped_once setup i job desk w None once = once
+stepped_once setup i job desk w (Some a) once = settle_once setup i (moved setup i job a desk) (changed_once (flow_by job.aim job.answers) (move_of setup i job a desk.held).held desk.held once)
 
 step_once : (b : BenchState) (n : ℕ) (o : Option JobState) → EachOnce b.desks → EachOnce (step_at b n o).0.desks
 step_once b n None each = each
 step_once b n (Some job) each =
-    set_once b.desks n (stepped b.setup n b.cells job (desk_at b.desks n).held).0 each
-    (stepped_once b.setup n job (desk_at b.desks n).held (walk_after job.walk b.cells) (answer_of (says b.cells job)) (each n))
+    set_once b.desks n (stepped b.setup n b.cells job (desk_at b.desks n)).0 each
+    (stepped_once b.setup n job (desk_at b.desks n) (walk_after job.walk b.cells) (answer_of (says b.cells job)) (each n))
 
 served_once : (b : BenchState) (c : Call) → EachOnce b.desks → EachOnce (served b c).0.desks
-served_once b (Take n item a segment) each = set_once b.desks n _ each (each n)
+served_once b (Take n item a segment) each =
+    set_once b.desks n (taken b.setup n item a segment (desk_at b.desks n)).0 each (settle_once b.setup n (begun b.setup n item a segment (desk_at b.desks n)) (each n))
 served_once b (Step n) each = step_once b n (job_at b.desks n) each
 served_once b (Crash n) each = set_once b.desks n empty_desk each tt
 served_once b (Fail place) each = each
@@ -356,36 +365,57 @@ module _ (setup : SetupView) (shard : ℕ) (good : IsSetup setup) (calls : List 
             (subst (Becomes log b (Step i) i g (held_of desk g)) (sym (put_own desk g (extended (held_of desk g) (offset_of syn job.segment) job.segment.body))) own)
         by false apart = same_bytes (Step i) i flow _ (put_other flow g apart desk (extended (held_of desk g) (offset_of syn job.segment) job.segment.body))
 
-    answer_goes : Becomes log b (Step i) i flow (held_of desk flow) (held_of (stepped_by b.setup i job desk (walk_after job.walk b.cells) (Some got)).0.held flow)
+    abbrev at : Desk × Reply
+    at = moved b.setup i job got (desk_at b.desks i)
+
+    abbrev call : IsCall setup shard (Step i)
+    call = are_last (IsCall setup shard) calls (Step i) are
+
+    settled_held : (settle b.setup i at).0.held ≡ at.0.held
+    settled_held =
+        (settle_keeps b.setup i (Stands setup shard calls (Step i) call i at.0.held) (stands_on setup shard calls (Step i) call i at.0.held) at
+        (record { knows = moved_knows setup shard calls (Step i) call i job got (allowed_now setup shard good calls (Step i) are i job here got ended_so); holds = refl })).holds
+
+    answer_goes : Becomes log b (Step i) i flow (held_of desk flow) (held_of (stepped_by b.setup i job (desk_at b.desks i) (walk_after job.walk b.cells) (Some got)).0.held flow)
     answer_goes =
         let same : b.setup ≡ setup = setup_all calls (opening setup shard) in
         let was : List ℕ = held_by (flow_by job.aim job.answers) desk in
         let m : Move = next_move setup i job.aim job.segment (job.answers ++ got ∷ []) was in
-        subst (λ (s : SetupView). Becomes log b (Step i) i flow (held_of desk flow) (held_of (moved_by job got desk (next_move s i job.aim job.segment (job.answers ++ got ∷ []) was)).0.held flow)) (sym same)
+        subst (λ (h : Held). Becomes log b (Step i) i flow (held_of desk flow) (held_of h flow)) (sym settled_held)
+        (subst (λ (s : SetupView). Becomes log b (Step i) i flow (held_of desk flow) (held_of (moved s i job got (desk_at b.desks i)).0.held flow)) (sym same)
         (so_becomes job.aim (job.answers ++ got ∷ []) m.held (change_is setup i job.aim job.segment (job.answers ++ got ∷ []) was) refl refl
-        (supported_more setup shard good calls (Step i) are i job here got ended_so))
+        (supported_more setup shard good calls (Step i) are i job here got ended_so)))
 
   module _ (n : ℕ) (are : AreCalls setup shard (calls ++ Step n ∷ [])) (i : ℕ) (flow : Flow) where
     abbrev Now : List ℕ → List ℕ → Type 0
     Now bytes = Becomes (log_after setup shard (calls ++ Step n ∷ [])) b (Step n) i flow bytes
 
     answered_goes : (job : JobState) → job_at b.desks n ≡ Some job → n ≡ i → (o : Option Answer) → answer_of (says b.cells job) ≡ o
-        → Now (held_of (desk_at b.desks i).held flow) (held_of (stepped_by b.setup n job (desk_at b.desks n).held (walk_after job.walk b.cells) o).0.held flow)
+        → Now (held_of (desk_at b.desks i).held flow) (held_of (stepped_by b.setup n job (desk_at b.desks n) (walk_after job.walk b.cells) o).0.held flow)
     answered_goes job here same None said = subst (λ m. Now (held_of (desk_at b.desks i).held flow) (held_of (desk_at b.desks m).held flow)) (sym same) stays
     answered_goes job here same (Some got) said =
         subst (λ m. Becomes (log_after setup shard (calls ++ Step n ∷ [])) b (Step n) m flow (held_of (desk_at b.desks m).held flow)
-        (held_of (stepped_by b.setup n job (desk_at b.desks n).held (walk_after job.walk b.cells) (Some got)).0.held flow)) same
+        (held_of (stepped_by b.setup n job (desk_at b.desks n) (walk_after job.walk b.cells) (Some got)).0.held flow)) same
         (answer_goes n flow are job here got said)
 
     step_goes : (o : Option JobState) → job_at b.desks n ≡ o → Now (held_of (desk_at b.desks i).held flow) (held_of (desk_at (step_at b n o).0.desks i).held flow)
     step_goes None here = stays
     step_goes (Some job) here =
-        set_goes (Step n) i flow n (stepped b.setup n b.cells job (desk_at b.desks n).held).0 (λ same. answered_goes job here same (answer_of (says b.cells job)) refl)
+        set_goes (Step n) i flow n (stepped b.setup n b.cells job (desk_at b.desks n)).0 (λ same. answered_goes job here same (answer_of (says b.cells job)) refl)
+
+  -- a Take leaves what is held
+  taken_held : (n item : ℕ) (a : Aim) (segment : Segment) → AreCalls setup shard (calls ++ Take n item a segment ∷ []) → (taken b.setup n item a segment (desk_at b.desks n)).0.held ≡ (desk_at b.desks n).held
+  taken_held n item a segment are =
+      let c : Call = Take n item a segment in
+      let call : IsCall setup shard c = are_last (IsCall setup shard) calls c are in
+      (settle_keeps b.setup n (Stands setup shard calls c call n (desk_at b.desks n).held) (stands_on setup shard calls c call n (desk_at b.desks n).held) (begun b.setup n item a segment (desk_at b.desks n))
+      (record { knows = begun_knows setup shard calls c call n item a segment refl; holds = refl })).holds
 
   call_goes : (c : Call) → AreCalls setup shard (calls ++ c ∷ []) → (i : ℕ) (flow : Flow)
       → Becomes (log_after setup shard (calls ++ c ∷ [])) b c i flow (held_of (desk_at b.desks i).held flow) (held_of (desk_at (served b c).0.desks i).held flow)
   call_goes (Take n item a segment) are i flow =
-      set_goes (Take n item a segment) i flow n _ (λ same. same_bytes (Take n item a segment) i flow _ (ap (λ m. held_of (desk_at b.desks m).held flow) same))
+      set_goes (Take n item a segment) i flow n (taken b.setup n item a segment (desk_at b.desks n)).0
+      (λ same. same_bytes (Take n item a segment) i flow _ (ap (λ (h : Held). held_of h flow) (taken_held n item a segment are) ∙ ap (λ m. held_of (desk_at b.desks m).held flow) same))
   call_goes (Step n) are i flow = step_goes n are i flow (job_at b.desks n) refl
   call_goes (Crash n) are i flow = set_goes (Crash n) i flow n empty_desk (λ same. drops)
   call_goes (Fail place) are i flow = stays

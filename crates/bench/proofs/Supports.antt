@@ -13,9 +13,6 @@ use Rattle.job_core.specs.Table.{candidate_of}
 use Rattle.job_core.specs.declared.aim.Aim.{Aim}
 use Rattle.job_core.specs.declared.aim.Aim.TheVariants as aim
 use Rattle.job_core.specs.declared.moves.Answer.{Answer}
-use Rattle.job_core.specs.declared.moves.HeldChange.{HeldChange}
-use Rattle.job_core.specs.TableLaws.{IsAsked}
-use Rattle.job_core.specs.TableLaws.IsAsked.{adds_syn, gets_syn, gets_open, client_resets, refuses, adds_choice, adds_port, gets_port, gets_owner, adds_open, gets_owners_open}
 use Rattle.job_core.proofs.Asks.{asked_is, length-push}
 use Rattle.job_core.specs.declared.moves.Answer.TheVariants.{Decided, Absent, Down}
 use Rattle.rule_table.specs.Setups.{SetupView, IsSetup}
@@ -25,56 +22,21 @@ use Rattle.bench.specs.Calls.{AreCalls}
 use Rattle.bench.specs.Histories.{Mark, log_after, Ends, Decides}
 use Rattle.bench.specs.JobLaws.{PortsAnswered, ChoiceAnswered, OpenAnswered, ClientAnswered, OwnersOpenAnswered, OwnerAnswered, PortAnswered, Supported, JobsKnown, BegunLaw}
 use Rattle.bench.specs.Laws.{Asks, EachAnswered}
+pub use Rattle.bench.proofs.Asking.{client_second, server_second}
+use Rattle.bench.proofs.Asking.{client_first, client_third, client_port, server_first, server_third, key_is}
 use Rattle.bench.proofs.Begun.{jobs_known, raw_after}
 use Rattle.bench.proofs.Fits.{decided_fit}
 
--- ---- which key is asked for
-module _ (setup : SetupView) (i : ℕ) (seg : Segment) (held : List ℕ) where
-  client_first : (flow : Flow) (x : HeldChange) (q : Ask) → IsAsked setup i seg held (aim.Client flow) [] x q → asked_key q ≡ key.Syn flow
-  client_first flow x q (adds_syn f r syn kind number) = refl
-  client_first flow x q (gets_syn f other) = refl
-
-  pub client_second : (flow : Flow) (a : Answer) (x : HeldChange) (q : Ask) → IsAsked setup i seg held (aim.Client flow) (a ∷ []) x q → asked_key q ≡ key.Open flow
-  client_second flow a x q (gets_open f syn other) = refl
-
-  client_third : (flow : Flow) (a : Answer) (x : HeldChange) (q : Ask) → is_reset seg.head.flags ≡ false → IsAsked setup i seg held (aim.Client flow) (a ∷ Absent ∷ []) x q
-      → (asked_key q ≡ key.Choice flow) ⊎ (asked_key q ≡ key.Gone flow)
-  client_third flow a x q still (client_resets f syn r b other reset kind) = absurd (false≢true (sym still ∙ reset))
-  client_third flow a x q still (refuses f syn r more other same reached is kind) = inr refl
-  client_third flow a x q still (adds_choice f syn choice more other same reached is whole chosen) = inl refl
-
-  client_port : (flow : Flow) (a b : Answer) (choice : Record) (taken : List Answer) (x : HeldChange) (q : Ask) → IsAsked setup i seg held (aim.Client flow) (a ∷ b ∷ Decided choice ∷ taken) x q
-      → asked_key q ≡ key.Port setup.service.number (choice_server choice) (candidate_of setup flow (length taken))
-  client_port flow a b choice taken x q (adds_port f syn c r t other still chosen others left kind owns) = refl
-
-  server_first : (server port : ℕ) (x : HeldChange) (q : Ask) → IsAsked setup i seg held (aim.Server server port) [] x q → asked_key q ≡ key.Port setup.service.number server port
-  server_first server port x q (gets_port v p) = refl
-
-  pub server_second : (server port : ℕ) (r : Record) (x : HeldChange) (q : Ask) → IsAsked setup i seg held (aim.Server server port) (Decided r ∷ []) x q → asked_key q ≡ key.Syn (port_owner r)
-  server_second server port r x q (gets_owner v p s) = refl
-
-  server_third : (server port : ℕ) (r : Record) (a : Answer) (x : HeldChange) (q : Ask) → IsAsked setup i seg held (aim.Server server port) (Decided r ∷ a ∷ []) x q → asked_key q ≡ key.Open (port_owner r)
-  server_third server port r a x q (adds_open v p s syn opened ack acks kind of_server of_port number) = refl
-  server_third server port r a x q (gets_owners_open v p s syn other) = refl
-
 -- a choice is no record of a flow's end
 not_gone : (flow : Flow) (r : Record) → fits_key (key.Gone flow) r ≡ true → is_choice r ≡ true → ⊥
-not_gone flow (Syn number mss window) fits chosen = false≢true chosen
+not_gone flow (Syn number mss window scale sack) fits chosen = false≢true chosen
 not_gone flow (Choice server rule) fits chosen = false≢true fits
 not_gone flow (Port owner) fits chosen = false≢true chosen
-not_gone flow (Open server port number) fits chosen = false≢true chosen
+not_gone flow (Open server port number scale sack) fits chosen = false≢true chosen
 not_gone flow (Fin side number) fits chosen = false≢true chosen
 not_gone flow (Gone by) fits chosen = false≢true chosen
 
 module _ (log : List Mark) (setup : SetupView) (fit : (k : Key) (r : Record) → Decides log k r → fits_key k r ≡ true) (i : ℕ) (seg : Segment) where
-  -- the answer at the head of those that are left is one of this key
-  key_is : (a : Aim) (before answers : List Answer) (got : Answer) (k : Key) → EachAnswered log setup i a seg before (got ∷ answers)
-      → ((held : List ℕ) (x : HeldChange) (q : Ask) → IsAsked setup i seg held a before x q → asked_key q ≡ k) → Ends log k got
-  key_is a before answers got k each names =
-      let q : Ask = each.0.0 in
-      let asks : Asks setup i a seg before q = each.0.1 in
-      subst (λ x. Ends log x got) (names asks.0 _ q (asked_is setup i a seg before asks.0 q asks.1)) each.0.2
-
   module _ (flow : Flow) where
     abbrev c : Aim
     c = aim.Client flow
@@ -84,7 +46,7 @@ module _ (log : List Mark) (setup : SetupView) (fit : (k : Key) (r : Record) →
     ports_answered a b choice taken [] n same each = tt
     ports_answered a b choice taken (got ∷ answers) n same each = (
       subst (λ m. Ends log (key.Port setup.service.number (choice_server choice) (candidate_of setup flow m)) got) (sym same)
-          (key_is c (a ∷ b ∷ Decided choice ∷ taken) answers got _ each (λ held x q asked. client_port setup i seg held flow a b choice taken x q asked)),
+          (key_is log setup i seg c (a ∷ b ∷ Decided choice ∷ taken) answers got _ each (λ held x q asked. client_port setup i seg held flow a b choice taken x q asked)),
       ports_answered a b choice (taken ++ got ∷ []) answers (suc n) (ap suc same ∙ sym (length-push taken got)) each.1,
     )
 
@@ -105,14 +67,14 @@ module _ (log : List Mark) (setup : SetupView) (fit : (k : Key) (r : Record) →
 
     open_answered : (a : Answer) (answers : List Answer) → EachAnswered log setup i c seg (a ∷ []) answers → OpenAnswered log setup flow seg answers
     open_answered a [] each = tt
-    open_answered a (Decided r ∷ answers) each = key_is c (a ∷ []) answers (Decided r) (key.Open flow) each (λ held x q asked. client_second setup i seg held flow a x q asked)
+    open_answered a (Decided r ∷ answers) each = key_is log setup i seg c (a ∷ []) answers (Decided r) (key.Open flow) each (λ held x q asked. client_second setup i seg held flow a x q asked)
     open_answered a (Absent ∷ answers) each =
-        (key_is c (a ∷ []) answers Absent (key.Open flow) each (λ held x q asked. client_second setup i seg held flow a x q asked), λ still. choice_answered a answers still each.1)
-    open_answered a (Down ∷ answers) each = key_is c (a ∷ []) answers Down (key.Open flow) each (λ held x q asked. client_second setup i seg held flow a x q asked)
+        (key_is log setup i seg c (a ∷ []) answers Absent (key.Open flow) each (λ held x q asked. client_second setup i seg held flow a x q asked), λ still. choice_answered a answers still each.1)
+    open_answered a (Down ∷ answers) each = key_is log setup i seg c (a ∷ []) answers Down (key.Open flow) each (λ held x q asked. client_second setup i seg held flow a x q asked)
 
     client_answered : (answers : List Answer) → EachAnswered log setup i c seg [] answers → ClientAnswered log setup flow seg answers
     client_answered [] each = tt
-    client_answered (a ∷ answers) each = (key_is c [] answers a (key.Syn flow) each (λ held x q asked. client_first setup i seg held flow x q asked), open_answered a answers each.1)
+    client_answered (a ∷ answers) each = (key_is log setup i seg c [] answers a (key.Syn flow) each (λ held x q asked. client_first setup i seg held flow x q asked), open_answered a answers each.1)
 
   module _ (server port : ℕ) where
     abbrev s : Aim
@@ -120,15 +82,15 @@ module _ (log : List Mark) (setup : SetupView) (fit : (k : Key) (r : Record) →
 
     owners_open : (r : Record) (a : Answer) (answers : List Answer) → EachAnswered log setup i s seg (Decided r ∷ a ∷ []) answers → OwnersOpenAnswered log (port_owner r) answers
     owners_open r a [] each = tt
-    owners_open r a (got ∷ answers) each = key_is s (Decided r ∷ a ∷ []) answers got (key.Open (port_owner r)) each (λ held x q asked. server_third setup i seg held server port r a x q asked)
+    owners_open r a (got ∷ answers) each = key_is log setup i seg s (Decided r ∷ a ∷ []) answers got (key.Open (port_owner r)) each (λ held x q asked. server_third setup i seg held server port r a x q asked)
 
     owner_answered : (r : Record) (answers : List Answer) → EachAnswered log setup i s seg (Decided r ∷ []) answers → OwnerAnswered log (port_owner r) answers
     owner_answered r [] each = tt
     owner_answered r (a ∷ answers) each =
-        (key_is s (Decided r ∷ []) answers a (key.Syn (port_owner r)) each (λ held x q asked. server_second setup i seg held server port r x q asked), owners_open r a answers each.1)
+        (key_is log setup i seg s (Decided r ∷ []) answers a (key.Syn (port_owner r)) each (λ held x q asked. server_second setup i seg held server port r x q asked), owners_open r a answers each.1)
 
     port_key : (answers : List Answer) (got : Answer) → EachAnswered log setup i s seg [] (got ∷ answers) → Ends log (key.Port setup.service.number server port) got
-    port_key answers got each = key_is s [] answers got (key.Port setup.service.number server port) each (λ held x q asked. server_first setup i seg held server port x q asked)
+    port_key answers got each = key_is log setup i seg s [] answers got (key.Port setup.service.number server port) each (λ held x q asked. server_first setup i seg held server port x q asked)
 
     port_answered : (answers : List Answer) → EachAnswered log setup i s seg [] answers → PortAnswered log setup server port answers
     port_answered [] each = tt

@@ -89,7 +89,7 @@ until_done b (c ∷ calls) = c ∷ if_going (served b c).1 (until_done (served b
 -- the verdict and the segments to send of the Done among these replies, if one is
 abbrev pub done_in : List Reply → Option (Verdict × List Segment)
 done_in [] = None
-done_in (reply.Done verdict outs ∷ replies) = Some (verdict, outs)
+done_in (reply.Done verdict outs ∷ replies) = Some (verdict, outs.list)
 done_in (reply.Going ∷ replies) = done_in replies
 done_in (reply.Idle ∷ replies) = done_in replies
 done_in (reply.Noted ∷ replies) = done_in replies

@@ -9,4 +9,5 @@ pub mod Inputs
 pub mod JobLaws
 pub mod Laws
 pub mod MoveLaws
+pub mod Passing
 pub mod Prepared
