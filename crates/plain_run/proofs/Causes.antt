@@ -4,7 +4,7 @@ use Rattle.std.specs.Prelude.{IsSome, nat_le, unwrap_or, if◌then◌else◌}
 use Rattle.std.proofs.lemmas.Bool.{false≢true}
 use Rattle.bench.specs.Bench.{BenchState}
 use Rattle.bench.specs.Blocks.{crash_after, most_steps, limit_of, done_in, IsTold}
-use Rattle.bench.specs.Calls.{IsAimedHere, AreCalls}
+use Rattle.bench.specs.Calls.{AreCalls}
 use Rattle.bench.specs.Histories.{bench_after, replies}
 use Rattle.bench.specs.declared.call.Call.{Call}
 use Rattle.bench.specs.declared.input.line.Line.{Line as LineOf}
@@ -30,7 +30,7 @@ not_none (Some x) some is = absurd cc
 
 -- a work that is handled after this history of its shard
 module _ (setup : SetupView) (good : IsSetup setup) (lines : List Line) (n : ℕ) (line : LineOf) (shard : ℕ) (before : List Call) (are : AreCalls setup shard before)
-    (a : Aim) (segment : Segment) (instance : ℕ) (within : instance < setup.instances) (aimed : IsAimedHere setup shard a segment) where
+    (a : Aim) (segment : Segment) (instance : ℕ) (within : instance < setup.instances) where
   abbrev b : BenchState
   b = bench_after setup shard before
 
@@ -42,7 +42,7 @@ module _ (setup : SetupView) (good : IsSetup setup) (lines : List Line) (n : ℕ
   IsBroken verdict = IsCaused setup lines n line b a segment instance verdict []
 
   crash_cause : (after : Option ℕ) → crash ≡ after → done_by b instance n a segment (suc (most_steps setup after)) ≡ None → IsBroken Crashed
-  crash_cause None is undone = absurd (not_none _ (ends_done setup shard good instance n a segment within aimed before are) undone)
+  crash_cause None is undone = absurd (not_none _ (ends_done setup shard good instance n a segment within before are) undone)
   crash_cause (Some steps) is undone = (refl, (steps, is, undone))
 
   -- .. and of one that is done
@@ -84,7 +84,9 @@ module _ (setup : SetupView) (good : IsSetup setup) (lines : List Line) (n : ℕ
     where
       told : (calls : ℕ) (verdict : Verdict) (outs : List Segment) → done_by b instance n a segment calls ≡ Some (verdict, outs) → IsTold verdict
       told zero verdict outs is = absurd cc
-      told (suc most) verdict outs is = done_told b instance n a segment most verdict outs (done_reply _ verdict outs (handling_done b instance n a segment most ∙ is))
+      told (suc most) verdict outs is =
+          let reply = done_reply _ verdict outs (handling_done b instance n a segment most ∙ is) in
+          done_told b instance n a segment most verdict reply.0 reply.1
 
       limit : ℕ × Verdict
       limit = limit_of (most_steps setup crash) (refused_in line.verdict)

@@ -26,11 +26,12 @@ pub struct Run {
 }
 
 impl Model for Run {
+    ghost use Rattle.plain_run.specs.Benches.{states};
     ghost use Rattle.plain_run.specs.UnderWay.{RunState};
 
     ghost Value = { RunState };
 
-    ghost view = { λ r. record { benches = r.benches.items; due = r.due; next = r.next } };
+    ghost view = { λ r. record { benches = states r.benches.items; due = r.due; next = r.next } };
 }
 
 impl Run {
@@ -60,7 +61,7 @@ impl Run {
         // were made before it.
         ensures made { IsMadeAfter inputs.now.setup result self.old.benches self.new.benches (λ earlier. block_of inputs.now result.line earlier self.old.next frame.now) }
         // Each segment that is sent fits a packet.
-        ensures short { AllByRecursion IsShort result.outs }
+        ensures short { AllByRecursion IsShort result.outs.list }
         ensures next { self.new.next ≡ self.old.next + 1 }
         ensures run { IsRunOf inputs.now self.new }
     {
