@@ -31,7 +31,7 @@ use Rattle.run_threads.specs.Items.{IsTurn, IsOwn, instance_of, owner_by, owner}
 use Rattle.run_threads.specs.Laws.{IsCaused, HasCause}
 use Rattle.run_threads.specs.Outs.{IsTableReply}
 use Rattle.run_threads.specs.Run.{IsThreadRun}
-use Rattle.run_threads.specs.declared.outcome.Outcome.{Outcome}
+use Rattle.run_threads.specs.Outcomes.{OutcomeView}
 use Rattle.run_threads.proofs.Telling.{AreTableReplies, split, shard_for, EachTold, run_told}
 
 -- the lines that do something at a record say when an instance crashes in it
@@ -58,7 +58,7 @@ done_told [] end table is = absurd (cc)
 done_told (a ∷ answers) end table is = by a.1 table.0 is (done_told answers end table.1)
   where
     by : (r : Reply) → IsTableReply r → done_in (r ∷ replies_in answers) ≡ Some end → (done_in (replies_in answers) ≡ Some end → IsTold end.0) → IsTold end.0
-    by (reply.Done verdict outs) told is ih = subst (λ (e : Verdict × List Segment). IsTold e.0) (some_same (verdict, outs) end is) told.0
+    by (reply.Done verdict outs) told is ih = subst (λ (e : Verdict × List Segment). IsTold e.0) (some_same (verdict, outs.list) end is) told.0
     by reply.Going told is ih = ih is
     by reply.Idle told is ih = ih is
     by reply.Noted told is ih = ih is
@@ -90,11 +90,11 @@ module _ (inputs : Inputs) (n : ℕ) where
           (λ none. inr (inr (none.0, told ∙ none.1)))
           (limit_told (most_steps inputs.setup after) refused)
 
-  turn_cause : (i : ℕ) (a : Aim) (segment : Segment) (own : ℕ) (after : Option ℕ) (o : Outcome) (answers : List Answer) → after ≡ crash_after inputs.script.lines i n
+  turn_cause : (i : ℕ) (a : Aim) (segment : Segment) (own : ℕ) (after : Option ℕ) (o : OutcomeView) (answers : List Answer) → after ≡ crash_after inputs.script.lines i n
       → IsTurn inputs.setup i n a segment own after o own answers → AreTableReplies answers → HasCause inputs n (Work a segment i own) o.line
   turn_cause i a segment own after o answers after_is turn table =
       let cause = end_cause i a segment after turn.refused turn.end turn.handling after_is (turn.handled.here refl) (split answers turn.handling turn.crash turn.are table).0 in
-      subst (λ (x : Outcome). HasCause inputs n (Work a segment i own) x.line) (sym turn.comes_to) (inr (refl, cause))
+      subst (λ (x : OutcomeView). HasCause inputs n (Work a segment i own) x.line) (sym turn.comes_to) (inr (refl, cause))
 
   -- the worker is that of the instance that handles the record, if one does
   abbrev Whose : ℕ → Prepared → Type 0
@@ -105,16 +105,16 @@ module _ (inputs : Inputs) (n : ℕ) where
   whose (Ended v) = tt
   whose (Work a segment i own) = refl
 
-  own_cause : (w : ℕ) (p : Prepared) (after : Option ℕ) (o : Outcome) (answers : List Answer) → after ≡ crash_after inputs.script.lines w n → Whose w p
+  own_cause : (w : ℕ) (p : Prepared) (after : Option ℕ) (o : OutcomeView) (answers : List Answer) → after ≡ crash_after inputs.script.lines w n → Whose w p
       → IsOwn inputs.setup w n p after o (shard_for p) answers → AreTableReplies answers → HasCause inputs n p o.line
-  own_cause w (Ended v) after o answers after_is whose is table = ap (λ (x : Outcome). x.line) is.0
+  own_cause w (Ended v) after o answers after_is whose is table = ap (λ (x : OutcomeView). x.line) is.0
   own_cause w (Work a segment i own) after o answers after_is whose is table = ⊎_elim
-      (λ passed. inl (ap (λ (x : Outcome). x.line) passed.0))
+      (λ passed. inl (ap (λ (x : OutcomeView). x.line) passed.0))
       (λ turn. subst (λ k. HasCause inputs n (Work a segment k own) o.line) whose (turn_cause w a segment own after o answers after_is turn table))
       is
 
 module _ (inputs : Inputs) (sized : IsSetup inputs.setup) (law : AssignedIsLiving) where
-  cause_at : (n k : ℕ) (frames : List Frame) (outcomes : List Outcome) (f : Frame) (l : Line) → EachTold inputs sized law n frames outcomes → slice_get frames k ≡ Some f → slice_get (map (λ (o : Outcome). o.line) outcomes) k ≡ Some l
+  cause_at : (n k : ℕ) (frames : List Frame) (outcomes : List OutcomeView) (f : Frame) (l : Line) → EachTold inputs sized law n frames outcomes → slice_get frames k ≡ Some f → slice_get (map (λ (o : OutcomeView). o.line) outcomes) k ≡ Some l
       → HasCause inputs (n + k) (prepared_of inputs (n + k) f) l
   cause_at n k [] [] f l told there is = absurd (cc)
   cause_at n k [] (o ∷ outcomes) f l told there is = absurd told

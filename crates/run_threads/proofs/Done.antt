@@ -16,11 +16,11 @@ use Rattle.run_threads.specs.Pool.{AreLocks, AreJoined, AllIn, AreHistories, IsH
 use Rattle.run_threads.specs.Run.{AreDone}
 use Rattle.run_threads.specs.Seats.{BenchLock, BenchSeat}
 use Rattle.run_threads.specs.Work.{AreItems}
-use Rattle.run_threads.specs.declared.run.Told.{Told}
+use Rattle.run_threads.specs.declared.tale.Tale.{Tale}
 use Rattle.run_threads.proofs.Closed.{legal_from}
 
-pub all_in : (inputs : Inputs) (frames : List Frame) (locks : List BenchLock) (first : List BenchSeat) (told : List Told) → AreLocks inputs.setup inputs.setup.shards locks → AreJoined inputs frames 0 locks first told → AllIn inputs.setup.instances inputs.setup.shards locks first
-all_in inputs frames locks first told are joined = record { locks_many = are.many; seats_many = joined.seats_many; each = joined.seats }
+pub all_in : (inputs : Inputs) (frames : List Frame) (locks : List BenchLock) (first : List BenchSeat) (tales : List Tale) → AreLocks inputs.setup inputs.setup.shards locks → AreJoined inputs frames 0 locks first tales → AllIn inputs.setup.instances inputs.setup.shards locks first
+all_in inputs frames locks first tales are joined = record { locks_many = are.many; seats_many = joined.seats_many; each = joined.seats }
 
 -- the element at a place that is there
 pub element : {X : Type 0} (xs : List X) (n : ℕ) → n < length xs → X
@@ -33,10 +33,10 @@ are_calls setup g b [] same here legal = tt
 are_calls setup g b (e ∷ history) same here legal =
     (subst (λ n. IsCall setup n e.call) here (subst (λ s. IsCall s b.shard e.call) same legal.0), are_calls setup g b history same here legal.1)
 
-pub are_done : (inputs : Inputs) (frames : List Frame) (locks : List BenchLock) (first : List BenchSeat) (told : List Told) (histories : List (List (Entry Call))) → frames ≡ (capture_of inputs.trace).frames
-    → AreLocks inputs.setup inputs.setup.shards locks → AreJoined inputs frames 0 locks first told → AreHistories inputs.setup.instances inputs.setup.shards 0 first histories
-    → AreDone inputs told histories
-are_done inputs frames locks first told histories frames_are are joined closed =
+pub are_done : (inputs : Inputs) (frames : List Frame) (locks : List BenchLock) (first : List BenchSeat) (tales : List Tale) (histories : List (List (Entry Call))) → frames ≡ (capture_of inputs.trace).frames
+    → AreLocks inputs.setup inputs.setup.shards locks → AreJoined inputs frames 0 locks first tales → AreHistories inputs.setup.instances inputs.setup.shards 0 first histories
+    → AreDone inputs tales histories
+are_done inputs frames locks first tales histories frames_are are joined closed =
     let many = joined.many in
     let shards = closed.many in
     let at : (g : ℕ) (h : List (Entry Call)) → slice_index_or histories (g - 0) h ≡ slice_index_or histories g h = λ g h. ap (λ k. slice_index_or histories k h) (let e : g - 0 ≡ g = omega arith in e) in record {
@@ -45,7 +45,7 @@ are_done inputs frames locks first told histories frames_are are joined closed =
       workers = λ w d within.
           let t = joined.workers w d (omega arith) within in record {
             outcomes = t.outcomes;
-            told_are = t.told_are;
+            tells = t.tells;
             items = λ g h below.
                 let l = element locks g (subst (λ k. g < k) (sym are.many) below) in
                 let s = element first g (subst (λ k. g < k) (sym joined.seats_many) below) in

@@ -22,7 +22,7 @@ use Rattle.bench.specs.Blocks.{crash_of, crash_after}
 use Rattle.run_threads.specs.Items.{IsHandledAt, IsTurn, IsPassed, IsOwn, IsDone, IsItem, outcome_of, ended, unprepared, fails_before, instance_of, owner_by, owner}
 use Rattle.run_threads.specs.Seats.{BenchLock, BenchSeat, Adds}
 use Rattle.run_threads.specs.declared.handling.Refused.{Refused}
-use Rattle.run_threads.specs.declared.outcome.Outcome.{Outcome}
+use Rattle.run_threads.specs.Outcomes.{OutcomeView}
 use Rattle.run_threads.proofs.Crews.{one_does, both_do}
 use Rattle.run_threads.proofs.Handled.{is_handled}
 
@@ -36,7 +36,7 @@ module _ (setup : SetupView) (locks : List BenchLock) where
       (record { here = λ e. is_handled setup i item a segment after end h.answers timely h.made h.told h.within; there = λ apart. absurd (apart refl) })
       (λ k apart. record { here = λ e. absurd (apart e); there = λ e. refl })
 
-  pub turn_taken : (old mid new : List BenchSeat) (i item : ℕ) (a : Aim) (segment : Segment) (own : ℕ) (after refused : Option ℕ) (end : Verdict × List Segment) (outcome : Outcome)
+  pub turn_taken : (old mid new : List BenchSeat) (i item : ℕ) (a : Aim) (segment : Segment) (own : ℕ) (after refused : Option ℕ) (end : Verdict × List Segment) (outcome : OutcomeView)
       → IsPrepared setup (Work a segment i own) → CrewDoes locks old mid (IsHandledAt setup i item a segment own after refused end) → CrewMakes locks mid new (crash_of setup i after) → outcome ≡ outcome_of i end
       → CrewDoes locks old new (IsTurn setup i item a segment own after outcome)
   turn_taken old mid new i item a segment own after refused end outcome fits handled crashes comes_to =
@@ -54,34 +54,34 @@ module _ (locks : List BenchLock) (inputs : Inputs) (worker item : ℕ) (lines :
   abbrev pub setup : SetupView
   setup = inputs.setup
 
-  passed_done : (old new : List BenchSeat) (told : Option Outcome) (r : Result (Option Outcome) AllocError) → ((g : ℕ) (l : List Answer) → IsPassed setup worker (crash_after lines worker item) g l → IsDone inputs worker item lines frame told g l)
+  passed_done : (old new : List BenchSeat) (told : Option OutcomeView) (r : Result (Option OutcomeView) AllocError) → ((g : ℕ) (l : List Answer) → IsPassed setup worker (crash_after lines worker item) g l → IsDone inputs worker item lines frame told g l)
       → IfOk r (λ o. o ≡ told) → OnOk r (CrewDoes locks old new (IsPassed setup worker after)) → IfOk r (λ o. CrewDoes locks old new (IsDone inputs worker item lines frame o))
   passed_done old new told (Ok o) so same made =
       subst (λ t. CrewDoes locks old new (IsDone inputs worker item lines frame t)) (sym same)
       (does_so setup locks old new (IsPassed setup worker after) (IsDone inputs worker item lines frame told) made (λ g l p. so g l (subst (λ x. IsPassed setup worker x g l) after_is p)))
   passed_done old new told (Err e) so same made = tt
 
-  pub not_own : (old new : List BenchSeat) (who : ℕ) (r : Result (Option Outcome) AllocError) → who ≡ owner inputs item frame → who ≢ worker
+  pub not_own : (old new : List BenchSeat) (who : ℕ) (r : Result (Option OutcomeView) AllocError) → who ≡ owner inputs item frame → who ≢ worker
       → IfOk r (λ o. o ≡ None) → OnOk r (CrewDoes locks old new (IsPassed setup worker after)) → IfOk r (λ o. CrewDoes locks old new (IsDone inputs worker item lines frame o))
   not_own old new who r is apart same made = passed_done old new None r (λ g l p. ((λ e. apart (is ∙ e)), p)) same made
 
-  pub own_ended : (old new : List BenchSeat) (who : ℕ) (v : Verdict) (o : Outcome) (r : Result (Option Outcome) AllocError) → who ≡ owner inputs item frame → who ≡ worker
+  pub own_ended : (old new : List BenchSeat) (who : ℕ) (v : Verdict) (o : OutcomeView) (r : Result (Option OutcomeView) AllocError) → who ≡ owner inputs item frame → who ≡ worker
       → Ended v ≡ prepared_of inputs item frame → o ≡ ended v
       → IfOk r (λ t. t ≡ Some o) → OnOk r (CrewDoes locks old new (IsPassed setup worker after)) → IfOk r (λ t. CrewDoes locks old new (IsDone inputs worker item lines frame t))
   own_ended old new who v o r is own prepared_is o_is same made =
       passed_done old new (Some o) r (λ g l p. (sym is ∙ own, subst (λ x. IsOwn setup worker item x (crash_after lines worker item) o g l) prepared_is (o_is, p))) same made
 
-  refused_own : (p : Prepared) (o : Outcome) (x : Option ℕ) (g : ℕ) (l : List Answer) → HasWork p → o ≡ unprepared → IsPassed setup worker x g l → IsOwn setup worker item p x o g l
+  refused_own : (p : Prepared) (o : OutcomeView) (x : Option ℕ) (g : ℕ) (l : List Answer) → HasWork p → o ≡ unprepared → IsPassed setup worker x g l → IsOwn setup worker item p x o g l
   refused_own (Ended v) o x g l work is passed = absurd work
   refused_own (Work a segment i shard) o x g l work is passed = inl (is, passed)
 
-  pub own_refused : (old new : List BenchSeat) (who : ℕ) (o : Outcome) (r : Result (Option Outcome) AllocError) → who ≡ owner inputs item frame → who ≡ worker
+  pub own_refused : (old new : List BenchSeat) (who : ℕ) (o : OutcomeView) (r : Result (Option OutcomeView) AllocError) → who ≡ owner inputs item frame → who ≡ worker
       → HasWork (prepared_of inputs item frame) → o ≡ unprepared
       → IfOk r (λ t. t ≡ Some o) → OnOk r (CrewDoes locks old new (IsPassed setup worker after)) → IfOk r (λ t. CrewDoes locks old new (IsDone inputs worker item lines frame t))
   own_refused old new who o r is own work o_is same made =
       passed_done old new (Some o) r (λ g l p. (sym is ∙ own, refused_own (prepared_of inputs item frame) o (crash_after lines worker item) g l work o_is p)) same made
 
-  pub own_handled : (old new : List BenchSeat) (who i shard : ℕ) (a : Aim) (segment : Segment) (o : Outcome) → who ≡ owner inputs item frame → who ≡ worker
+  pub own_handled : (old new : List BenchSeat) (who i shard : ℕ) (a : Aim) (segment : Segment) (o : OutcomeView) → who ≡ owner inputs item frame → who ≡ worker
       → Work a segment i shard ≡ prepared_of inputs item frame → CrewDoes locks old new (IsTurn setup i item a segment shard after o) → CrewDoes locks old new (IsDone inputs worker item lines frame (Some o))
   own_handled old new who i shard a segment o is own prepared_is does =
       let mine : i ≡ worker = ap (λ p. owner_by setup item (instance_of p)) prepared_is ∙ (sym is ∙ own) in
@@ -93,7 +93,7 @@ module _ (locks : List BenchLock) (inputs : Inputs) (worker item : ℕ) (lines :
       ))
 
 module _ (locks : List BenchLock) (inputs : Inputs) (worker item : ℕ) (lines : List ScriptLine) (frame : Frame) where
-  pub item_done : (old mid new : List BenchSeat) (r : Result (Option Outcome) AllocError) → CrewMakes locks old mid (fails_before inputs.setup worker item lines)
+  pub item_done : (old mid new : List BenchSeat) (r : Result (Option OutcomeView) AllocError) → CrewMakes locks old mid (fails_before inputs.setup worker item lines)
       → IfOk r (λ o. CrewDoes locks mid new (IsDone inputs worker item lines frame o)) → IfOk r (λ o. CrewDoes locks old new (IsItem inputs worker item lines frame o))
   item_done old mid new (Ok o) fails done =
       both_do inputs.setup locks old mid new (λ g l. calls_in l ≡ history g (fails_before inputs.setup worker item lines)) (IsDone inputs worker item lines frame o) (IsItem inputs worker item lines frame o) fails done

@@ -17,6 +17,7 @@ pub mod Sending
 pub mod ShortOuts
 pub mod ShortReplies
 pub mod Taken
+pub mod Tales
 pub mod Telling
 pub mod Whole
 pub mod Work

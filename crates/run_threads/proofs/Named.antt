@@ -33,7 +33,7 @@ use Rattle.run_threads.specs.Items.{IsTurn, IsPassed, IsOwn, IsDone, failing, fa
 use Rattle.run_threads.specs.Laws.{IsNamed}
 use Rattle.run_threads.specs.Run.{told_by, IsThreadRun}
 use Rattle.run_threads.specs.Work.{AreItems}
-use Rattle.run_threads.specs.declared.outcome.Outcome.{Outcome}
+use Rattle.run_threads.specs.Outcomes.{OutcomeView}
 use Rattle.run_threads.proofs.Crews.{same_or_not}
 
 -- ---- lists
@@ -180,7 +180,7 @@ module _ (inputs : Inputs) (w g : ℕ) where
       handled_named after refused end answers here is =
           let most = (limit_of (most_steps inputs.setup after) refused).0 in made_named (handling_calls w item a segment most) answers (handling_named most here) is.made
 
-    turn_named : (a : Aim) (segment : Segment) (own : ℕ) (after : Option ℕ) (outcome : Outcome) (answers : List Answer) → prepared_of inputs item f ≡ Work a segment w own
+    turn_named : (a : Aim) (segment : Segment) (own : ℕ) (after : Option ℕ) (outcome : OutcomeView) (answers : List Answer) → prepared_of inputs item f ≡ Work a segment w own
         → IsTurn inputs.setup w item a segment own after outcome g answers → Named (calls_in answers)
     turn_named a segment own after outcome answers here is =
         joined_named answers is.handling is.crash is.are
@@ -188,18 +188,18 @@ module _ (inputs : Inputs) (w g : ℕ) where
         (λ apart. subst (λ l. Named (calls_in l)) (sym (is.handled.there apart)) tt) (same_or_not g own))
         (passed_named after is.crash is.crashes)
 
-    own_named : (p : Prepared) (after : Option ℕ) (outcome : Outcome) (answers : List Answer) → prepared_of inputs item f ≡ p → owner_by inputs.setup item (instance_of p) ≡ w
+    own_named : (p : Prepared) (after : Option ℕ) (outcome : OutcomeView) (answers : List Answer) → prepared_of inputs item f ≡ p → owner_by inputs.setup item (instance_of p) ≡ w
         → IsOwn inputs.setup w item p after outcome g answers → Named (calls_in answers)
     own_named (Ended v) after outcome answers at whose is = passed_named after answers is.1
     own_named (Work a segment instance own) after outcome answers at whose is =
         ⊎_elim (λ passed. passed_named after answers passed.1) (λ turn. turn_named a segment own after outcome answers (at ∙ ap (λ i. Work a segment i own) whose) turn) is
 
-    done_named : (lines : List ScriptLine) (told : Option Outcome) (answers : List Answer) → IsDone inputs w item lines f told g answers → Named (calls_in answers)
+    done_named : (lines : List ScriptLine) (told : Option OutcomeView) (answers : List Answer) → IsDone inputs w item lines f told g answers → Named (calls_in answers)
     done_named lines None answers is = passed_named (crash_after lines w item) answers is.1
     done_named lines (Some o) answers is = own_named (prepared_of inputs item f) (crash_after lines w item) o answers refl is.0 is.1
 
   -- ---- all items
-  items_named : (n : ℕ) (frames : List Frame) (outcomes : List (Option Outcome)) (answers : List Answer) → ((k : ℕ) (f : Frame) → slice_get frames k ≡ Some f → slice_get (capture_of inputs.trace).frames (n + k) ≡ Some f)
+  items_named : (n : ℕ) (frames : List Frame) (outcomes : List (Option OutcomeView)) (answers : List Answer) → ((k : ℕ) (f : Frame) → slice_get frames k ≡ Some f → slice_get (capture_of inputs.trace).frames (n + k) ≡ Some f)
       → AreItems inputs w n frames outcomes g answers → Named (calls_in answers)
   items_named n [] [] answers at are = subst (λ l. Named (calls_in l)) (sym are) tt
   items_named n [] (o ∷ outcomes) answers at are = absurd are

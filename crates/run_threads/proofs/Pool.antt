@@ -18,7 +18,7 @@ use Rattle.run_threads.specs.Pool.{AreLocks, IsFresh, AreFresh, IsSplit, IsRetur
 use Rattle.run_threads.specs.Seats.{BenchLock, BenchSeat, IsAt, Adds, answers}
 use Rattle.run_threads.specs.Work.{AreItems, IsWorkDone}
 use Rattle.run_threads.specs.declared.run.Crew.{Crew}
-use Rattle.run_threads.specs.declared.outcome.Outcome.{Outcome}
+use Rattle.run_threads.specs.declared.tale.Tale.{Tale}
 use Rattle.run_threads.proofs.Crews.{any_default, same_or_not}
 
 pub fresh_at : (n m : ℕ) (l : BenchLock) (s : BenchSeat) → IsFresh n m l s → IsAt l s
@@ -44,11 +44,11 @@ module _ (inputs : Inputs) (worker : ℕ) (frames : List Frame) (locks : List Be
     deaf = adds.same.heard_are ∙ f.deaf;
   }
 
-  pub has_worked : (old new : List BenchSeat) (told : List (ℕ × Outcome)) → AreFresh (worker + 1) 0 inputs.setup.shards locks old → IsWorkDone inputs worker frames locks old new told → HasWorked inputs worker frames locks new told
-  has_worked old new told fresh done = record {
+  pub has_worked : (old new : List BenchSeat) (tale : Tale) → AreFresh (worker + 1) 0 inputs.setup.shards locks old → IsWorkDone inputs worker frames locks old new tale → HasWorked inputs worker frames locks new tale
+  has_worked old new tale fresh done = record {
     many = done.does.count ∙ fresh.many;
     outcomes = done.outcomes;
-    told_are = done.told_are;
+    tells = done.tells;
     returned = λ g l s within.
         let d = done.does.each g l s (subst (λ n. g < n) (sym many) within) in
         returned_seat (slice_index_or locks g l) (slice_index_or old g s) (slice_index_or new g s) d.answers (fresh.each g l s within) d.adds;
@@ -62,9 +62,9 @@ module _ (inputs : Inputs) (worker : ℕ) (frames : List Frame) (locks : List Be
   }
 
   -- the seats lie in a vector of so many places
-  pub back_is : (old new now : List BenchSeat) (r : Result (List (ℕ × Outcome)) AllocError) → AreFresh (worker + 1) 0 inputs.setup.shards locks old → now ≡ new
-      → IfOk r (λ told. IsWorkDone inputs worker frames locks old new told) → IfOk r (λ told. HasWorked inputs worker frames locks now told)
-  back_is old new now (Ok told) fresh same done = subst (λ z. HasWorked inputs worker frames locks z told) (sym same) (has_worked old new told fresh done)
+  pub back_is : (old new now : List BenchSeat) (r : Result Tale AllocError) → AreFresh (worker + 1) 0 inputs.setup.shards locks old → now ≡ new
+      → IfOk r (λ tale. IsWorkDone inputs worker frames locks old new tale) → IfOk r (λ tale. HasWorked inputs worker frames locks now tale)
+  back_is old new now (Ok tale) fresh same done = subst (λ z. HasWorked inputs worker frames locks z tale) (sym same) (has_worked old new tale fresh done)
   back_is old new now (Err e) fresh same done = tt
 
 pub written_back : {X : Type 0} (n : ℕ) (new old : List X) → n ≡ length new → take n (new ++ drop (length new) old) ≡ new

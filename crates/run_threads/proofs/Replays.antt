@@ -5,7 +5,8 @@ use Rattle.seen_lock.specs.declared.object.Entry.{Entry}
 use Rattle.bench.specs.Calls.{IsCall, AreCalls}
 use Rattle.bench.specs.declared.call.Call.{Call}
 use Rattle.rule_table.specs.Setups.{SetupView}
-use Rattle.tcp_segment.specs.Written.{area_length, written_length}
+use Rattle.tcp_segment.specs.Written.{written_length}
+use Rattle.tcp_segment.proofs.Sums.{short-area}
 use Rattle.tcp_segment.specs.declared.options.Options.{Options}
 use Rattle.tcp_segment.specs.declared.segment.Head.{Head}
 
@@ -33,12 +34,5 @@ legal_at xs ys x f setup k history within same is history_is all =
     subst (λ h. AreCalls setup k (map (λ (e : Entry Call). e.call) h))
     (mapped f xs k x (subst (λ zs. k < length zs) same within) (subst (λ zs. x ≡ get_or zs k x) same is) ∙ sym history_is) (all (f x))
 
-area_short : (o : Options) → area_length o ≤ 4
-area_short o = by (is_some o.mss)
-  where
-    by : (b : Bool) → (if b then 4 else 0) ≤ 4
-    by true = omega arith
-    by false = omega arith
-
 pub short : (h : Head) (n : ℕ) → n ≤ 1460 → written_length h n ≤ 65515
-short h n few = let area = area_short h.options in omega (arith, area, few)
+short h n few = omega (arith, short-area h.options, few)

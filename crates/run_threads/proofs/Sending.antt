@@ -25,7 +25,7 @@ use Rattle.run_threads.specs.Answered.{Answer, replies_in}
 use Rattle.run_threads.specs.Items.{IsTurn, IsOwn, owner}
 use Rattle.run_threads.specs.Outs.{IsShort, IsTableReply, IsSent}
 use Rattle.run_threads.specs.Run.{outs_of, IsThreadRun}
-use Rattle.run_threads.specs.declared.outcome.Outcome.{Outcome}
+use Rattle.run_threads.specs.Outcomes.{OutcomeView}
 use Rattle.run_threads.proofs.Telling.{AreTableReplies, split, shard_for, crash_in, EachTold, run_told}
 
 abbrev AreShort : List Segment → Type 0
@@ -42,17 +42,17 @@ done_short (a ∷ answers) v table = by a.1 table.0 (done_short answers v table.
     by reply.Idle is rest = rest
     by reply.Noted is rest = rest
 
-module _ (inputs : Inputs) (w item : ℕ) (after : Option ℕ) (o : Outcome) (answers : List Answer) (table : AreTableReplies answers) where
+module _ (inputs : Inputs) (w item : ℕ) (after : Option ℕ) (o : OutcomeView) (answers : List Answer) (table : AreTableReplies answers) where
   turn_short : (a : Aim) (segment : Segment) (own : ℕ) → IsTurn inputs.setup w item a segment own after o own answers → AreShort o.outs
   turn_short a segment own turn =
       let handled = turn.handled.here refl in
-      subst AreShort (sym (ap (λ (x : Outcome). x.outs) turn.comes_to ∙ ap (λ (e : Verdict × List Segment). e.1) handled.ended))
+      subst AreShort (sym (ap (λ (x : OutcomeView). x.outs) turn.comes_to ∙ ap (λ (e : Verdict × List Segment). e.1) handled.ended))
       (done_short turn.handling _ (split answers turn.handling turn.crash turn.are table).0)
 
   own_short : (p : Prepared) → IsOwn inputs.setup w item p after o (shard_for p) answers → AreShort o.outs
-  own_short (Ended v) is = subst AreShort (sym (ap (λ (x : Outcome). x.outs) is.0)) tt
+  own_short (Ended v) is = subst AreShort (sym (ap (λ (x : OutcomeView). x.outs) is.0)) tt
   own_short (Work a segment i own) is = ⊎_elim
-      (λ passed. subst AreShort (sym (ap (λ (x : Outcome). x.outs) passed.0)) tt)
+      (λ passed. subst AreShort (sym (ap (λ (x : OutcomeView). x.outs) passed.0)) tt)
       (λ turn. turn_short a segment own turn)
       is
 
@@ -66,7 +66,7 @@ both_sent records [] ys one two = two
 both_sent records (x ∷ xs) ys one two = (one.0, both_sent records xs ys one.1 two)
 
 module _ (inputs : Inputs) (good : IsInputs inputs) (sized : IsSetup inputs.setup) (law : AssignedIsLiving) where
-  all_sent : (records n : ℕ) (frames : List Frame) (outcomes : List Outcome) → n + length frames ≤ records → EachTold inputs sized law n frames outcomes → AllByRecursion (IsSent records) (outs_of n outcomes)
+  all_sent : (records n : ℕ) (frames : List Frame) (outcomes : List OutcomeView) → n + length frames ≤ records → EachTold inputs sized law n frames outcomes → AllByRecursion (IsSent records) (outs_of n outcomes)
   all_sent records n [] [] few told = tt
   all_sent records n [] (o ∷ outcomes) few told = absurd told
   all_sent records n (f ∷ frames) [] few told = absurd told
@@ -84,4 +84,4 @@ module _ (inputs : Inputs) (good : IsInputs inputs) (sized : IsSetup inputs.setu
       (all_sent inputs.records 0 (capture_of inputs.trace).frames run.outcomes (omega (arith, records)) (run_told inputs sized law lines outs h run))
 
   pub lines_many : (lines : List Line) (outs : List (ℕ × Segment)) (h : List (List (Entry Call))) → IsThreadRun inputs lines outs h → length lines ≡ inputs.records
-  lines_many lines outs h run = ap length run.line ∙ (length-map run.outcomes (λ (o : Outcome). o.line) ∙ (run.records ∙ sym good.records))
+  lines_many lines outs h run = ap length run.line ∙ (length-map run.outcomes (λ (o : OutcomeView). o.line) ∙ (run.records ∙ sym good.records))

@@ -1,6 +1,6 @@
 -- A handling that the table ends has a verdict that is neither of a crash nor of want of memory, and what it sends is no
 -- longer than what came in, or fits a packet.
-use Rattle.std.proofs.Common.{◌≡◌, ℕ, ◌+◌, ◌*◌, ◌≤◌, Bool, true, false, ◌==◌, not, min, Option, Some, None, List, [], ◌∷◌, ◌++◌, map, length, take, drop, arith}
+use Rattle.std.proofs.Common.{◌≡◌, ℕ, ◌+◌, ◌*◌, ◌≤◌, Bool, true, false, ◌==◌, not, min, Option, Some, None, List, [], ◌∷◌, ◌++◌, map, length, take, drop, refl, ap, arith}
 use Rattle.std.specs.Prelude.{if◌then◌else◌, nat_lt, ◌||◌}
 use Rattle.std.specs.List.{AllByRecursion, range_with_len}
 use Rattle.std.proofs.lemmas.List.{length-take}
@@ -33,6 +33,7 @@ use Rattle.job_core.specs.Table.{Whose, untold, nobody, of_flow, whose_flow, who
 use Rattle.job_core.proofs.Asks.{by_test}
 use Rattle.bench.specs.Blocks.{IsTold}
 use Rattle.tcp_segment.specs.Written.{written_length}
+use Rattle.tcp_segment.proofs.Sums.{short-area}
 
 -- the segment, written, is within a limit on what it holds and 20 more
 abbrev pub Fits : ℕ → Segment → Type 0
@@ -40,17 +41,21 @@ Fits limit out = written_length out.head (length out.body) ≤ limit + 20
 
 abbrev pub IsShortNext : ℕ → Next → Type 0
 IsShortNext limit (next.Ask ask) = Unit {0}
-IsShortNext limit (next.End verdict outs) = IsTold verdict × AllByRecursion (Fits limit) outs
+IsShortNext limit (next.End verdict outs) = IsTold verdict × AllByRecursion (Fits limit) outs.list
 
 module _ (limit : ℕ) (wide : 65495 ≤ limit) where
   -- ---- the segments
+  -- the options of a segment without data fit
+  bare_short : (out : Segment) → out.body ≡ [] → Fits limit out
+  bare_short out bare = omega (arith, short-area out.head.options, ap length bare)
+
   syn_ack_short : (setup : SetupView) (flow : Flow) (syn : Record) → Fits limit (syn_ack_segment setup flow syn)
   unfolding syn_ack_segment
-  syn_ack_short setup flow syn = omega arith
+  syn_ack_short setup flow syn = bare_short (syn_ack_segment setup flow syn) refl
 
   server_syn_short : (setup : SetupView) (syn : Record) (server port : ℕ) → Fits limit (server_syn_segment setup syn server port)
   unfolding server_syn_segment
-  server_syn_short setup syn server port = omega arith
+  server_syn_short setup syn server port = bare_short (server_syn_segment setup syn server port) refl
 
   ack_short : (setup : SetupView) (syn opened : Record) → Fits limit (opening_ack setup syn opened)
   unfolding opening_ack
@@ -89,13 +94,13 @@ module _ (limit : ℕ) (wide : 65495 ≤ limit) where
   resets_short seg = by_test (λ o. AllByRecursion (Fits limit) (listed o)) (has_rst seg.head.flags || not (has_ack seg.head.flags)) None (Some (reset_back seg)) (λ none. tt) (λ some. (back_short seg, tt))
 
   module _ (setup : SetupView) (instance : ℕ) (seg : Segment) (short : length seg.body ≤ limit) (held : List ℕ) where
-    to_server_short : (forged : ℕ) (opened : Record) → Fits limit (to_server_segment setup seg forged opened)
+    to_server_short : (forged : ℕ) (syn opened : Record) → Fits limit (to_server_segment setup seg forged syn opened)
     unfolding to_server_segment
-    to_server_short forged opened = omega arith
+    to_server_short forged syn opened = omega arith
 
-    to_client_short : (forged : ℕ) (opened : Record) (flow : Flow) → Fits limit (to_client_segment setup seg forged opened flow)
+    to_client_short : (forged : ℕ) (syn opened : Record) (flow : Flow) → Fits limit (to_client_segment setup seg forged syn opened flow)
     unfolding to_client_segment
-    to_client_short forged opened flow = omega arith
+    to_client_short forged syn opened flow = omega arith
 
     -- ---- the lines
     abbrev Ends : Move → Type 0
@@ -154,13 +159,13 @@ module _ (limit : ℕ) (wide : 65495 ≤ limit) where
 
     client_reset_short : (flow : Flow) (syn : Record) (answers : List Answer) → Ends (client_reset setup flow syn seg answers)
     client_reset_short flow syn [] = tt
-    client_reset_short flow syn (Decided opened ∷ answers) = passes_short true _ (to_server_of setup flow seg opened) answers (to_server_short (forged_of setup flow) opened)
+    client_reset_short flow syn (Decided opened ∷ answers) = passes_short true _ (to_server_of setup flow seg syn opened) answers (to_server_short (forged_of setup flow) syn opened)
     client_reset_short flow syn (Absent ∷ answers) = lets_short flow answers
     client_reset_short flow syn (Down ∷ answers) = (tt, tt)
 
     client_other_short : (flow : Flow) (syn : Record) (answers : List Answer) → Ends (client_other setup instance flow syn seg held answers)
     client_other_short flow syn [] = tt
-    client_other_short flow syn (Decided opened ∷ answers) = passes_short (has_fin seg.head.flags) _ (to_server_of setup flow seg opened) answers (to_server_short (forged_of setup flow) opened)
+    client_other_short flow syn (Decided opened ∷ answers) = passes_short (has_fin seg.head.flags) _ (to_server_of setup flow seg syn opened) answers (to_server_short (forged_of setup flow) syn opened)
     client_other_short flow syn (Absent ∷ answers) = before_short flow syn answers
     client_other_short flow syn (Down ∷ answers) = (tt, tt)
 
@@ -177,15 +182,15 @@ module _ (limit : ℕ) (wide : 65495 ≤ limit) where
 
     server_reset_short : (flow : Flow) (syn : Record) (answers : List Answer) → Ends (server_reset setup flow syn seg answers)
     server_reset_short flow syn [] = tt
-    server_reset_short flow syn (Decided opened ∷ answers) = passes_short true _ (to_client_of setup flow seg opened) answers (to_client_short (forged_of setup flow) opened flow)
+    server_reset_short flow syn (Decided opened ∷ answers) = passes_short true _ (to_client_of setup flow seg syn opened) answers (to_client_short (forged_of setup flow) syn opened flow)
     server_reset_short flow syn (Absent ∷ answers) = turns_short flow syn answers
     server_reset_short flow syn (Down ∷ answers) = (tt, tt)
 
-    server_other_short : (flow : Flow) (answers : List Answer) → Ends (server_other setup flow seg answers)
-    server_other_short flow [] = tt
-    server_other_short flow (Decided opened ∷ answers) = passes_short (has_fin seg.head.flags) _ (to_client_of setup flow seg opened) answers (to_client_short (forged_of setup flow) opened flow)
-    server_other_short flow (Absent ∷ answers) = (tt, tt)
-    server_other_short flow (Down ∷ answers) = (tt, tt)
+    server_other_short : (flow : Flow) (syn : Record) (answers : List Answer) → Ends (server_other setup flow syn seg answers)
+    server_other_short flow syn [] = tt
+    server_other_short flow syn (Decided opened ∷ answers) = passes_short (has_fin seg.head.flags) _ (to_client_of setup flow seg syn opened) answers (to_client_short (forged_of setup flow) syn opened flow)
+    server_other_short flow syn (Absent ∷ answers) = (tt, tt)
+    server_other_short flow syn (Down ∷ answers) = (tt, tt)
 
     client_line_short : (w : Whose) → Ends (client_line setup instance seg held w)
     client_line_short (untold ask) = tt
@@ -197,7 +202,7 @@ module _ (limit : ℕ) (wide : 65495 ≤ limit) where
     server_line_short server port nobody = (tt, resets_short seg)
     server_line_short server port (of_flow flow syn answers) =
         choose (is_syn_ack seg.head.flags) _ _ (accepts_short server port flow syn answers)
-        (choose (is_reset seg.head.flags) _ _ (server_reset_short flow syn answers) (server_other_short flow answers))
+        (choose (is_reset seg.head.flags) _ _ (server_reset_short flow syn answers) (server_other_short flow syn answers))
 
     line_short : (a : Aim) (answers : List Answer) → Ends (line setup instance a seg answers held)
     line_short (aim.Client flow) answers = choose (is_syn seg.head.flags) _ _ (client_syn_short flow answers) (client_line_short (whose_flow flow answers))

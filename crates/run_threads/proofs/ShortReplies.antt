@@ -1,17 +1,21 @@
 -- Over every history whose takes fit packets, what a bench is answered sends what fits packets, with a verdict of the handling
 -- table.
-use Rattle.std.proofs.Common.{ℕ, zero, suc, ◌≤◌, Option, Some, None, List, [], ◌∷◌, ◌++◌, length, replicate, Bool, true, false, nat_eq, if◌then◌else◌, arith}
+use Rattle.std.proofs.Common.{◌≡◌, ℕ, zero, suc, ◌≤◌, Option, Some, None, List, [], ◌∷◌, ◌++◌, length, replicate, Bool, true, false, nat_eq, if◌then◌else◌, subst, arith}
 use Rattle.std.specs.Prelude.{slice_set}
 use Rattle.std.specs.List.{AllByRecursion}
 use Rattle.seen_lock.specs.declared.object.Entry.{Entry}
-use Rattle.bench.specs.Bench.{JobState, Desk, Held, BenchState, empty_desk, desk_at, job_at, held_by, answer_of, says, stepped_by, stepped, step_at, served, job_by, new_job, reply_by}
+use Rattle.bench.specs.Bench.{JobState, Desk, Known, BenchState, empty_desk, desk_at, job_at, held_by, answer_of, says, begun, taken, moved, turn_of, turned, used, settle, stepped_by, stepped, step_at, served, job_by, reply_by}
 use Rattle.bench.specs.Histories.{opening}
+use Rattle.bench.proofs.Counts.{turn_is}
+use Rattle.bench.proofs.Settles.{settle_keeps}
 use Rattle.bench.specs.declared.call.Call.{Call}
 use Rattle.bench.specs.declared.call.Call.TheVariants.{Take, Step, Crash, Fail}
+use Rattle.bench.specs.declared.call.Reply.{Reply}
 use Rattle.job_core.specs.Jobs.{flow_by}
 use Rattle.job_core.specs.Table.{next_move}
 use Rattle.job_core.specs.declared.aim.Aim.{Aim}
 use Rattle.job_core.specs.declared.moves.Answer.{Answer as AnswerOf}
+use Rattle.job_core.specs.declared.moves.Answer.TheVariants.{Decided}
 use Rattle.job_core.specs.declared.moves.Next.{Next}
 use Rattle.job_core.specs.declared.moves.Next.TheVariants as next
 use Rattle.replica_cell.specs.Walks.{walk_after}
@@ -55,26 +59,44 @@ reply_short (next.End verdict outs) short = short
 wide : 65495 ≤ 65495
 wide = omega arith
 
-stepped_short : (setup : SetupView) (i : ℕ) (job : JobState) (held : Held) (walk : Walk) (o : Option AnswerOf) → length job.segment.body ≤ 65495
-    → IsShortJob (stepped_by setup i job held walk o).0.job × IsTableReply (stepped_by setup i job held walk o).1
-stepped_short setup i job held walk None short = (short, tt)
-stepped_short setup i job held walk (Some a) short =
-    let answers = job.answers ++ a ∷ [] in
-    let bytes = held_by (flow_by job.aim job.answers) held in
-    let n = (next_move setup i job.aim job.segment answers bytes).next in
-    (job_short job.item job.aim job.segment answers n short, reply_short n (move_short 65495 wide setup i job.segment short bytes job.aim answers))
+-- the job at a desk came in so, and the reply is such a one
+abbrev IsShortTo : Desk × Reply → Type 0
+IsShortTo at = IsShortJob at.0.job × IsTableReply at.1
+
+module _ (setup : SetupView) (i : ℕ) where
+  moved_short : (job : JobState) (a : AnswerOf) (desk : Desk) → length job.segment.body ≤ 65495 → IsShortTo (moved setup i job a desk)
+  moved_short job a desk short =
+      let answers = job.answers ++ a ∷ [] in
+      let bytes = held_by (flow_by job.aim job.answers) desk.held in
+      let n = (next_move setup i job.aim job.segment answers bytes).next in
+      (job_short job.item job.aim job.segment answers n short, reply_short n (move_short 65495 wide setup i job.segment short bytes job.aim answers))
+
+  turned_short : (at : Desk × Reply) (turn : JobState × Known) → turn_of setup at.0 ≡ Some turn → IsShortTo at → IsShortTo (turned setup i at.0 turn)
+  turned_short at turn is short = moved_short turn.0 (Decided turn.1.item) (used at.0 turn.1.flow) (subst IsShortJob (turn_is setup at.0 turn is) short.0)
+
+  settled_short : (at : Desk × Reply) → IsShortTo at → IsShortTo (settle setup i at)
+  settled_short at short = settle_keeps setup i IsShortTo turned_short at short
+
+  taken_short : (item : ℕ) (a : Aim) (segment : Segment) (desk : Desk) → length segment.body ≤ 65495 → IsShortTo (taken setup i item a segment desk)
+  taken_short item a segment desk short =
+      let n = (next_move setup i a segment [] []).next in
+      settled_short (begun setup i item a segment desk) (job_short item a segment [] n short, reply_short n (move_short 65495 wide setup i segment short [] a []))
+
+  stepped_short : (job : JobState) (desk : Desk) (walk : Walk) (o : Option AnswerOf) → length job.segment.body ≤ 65495 → IsShortTo (stepped_by setup i job desk walk o)
+  stepped_short job desk walk None short = (short, tt)
+  stepped_short job desk walk (Some a) short = settled_short (moved setup i job a desk) (moved_short job a desk short)
 
 step_short : (b : BenchState) (i : ℕ) (o : Option JobState) → AreShortJobs b.desks → IsShortJob o → AreShortJobs (step_at b i o).0.desks × IsTableReply (step_at b i o).1
 step_short b i None all one = (all, tt)
 step_short b i (Some job) all one =
-    let held = (desk_at b.desks i).held in
-    let both = stepped_short b.setup i job held (walk_after job.walk b.cells) (answer_of (says b.cells job)) one in
-    (set_jobs b.desks i (stepped b.setup i b.cells job held).0 all both.0, both.1)
+    let desk = desk_at b.desks i in
+    let both = stepped_short b.setup i job desk (walk_after job.walk b.cells) (answer_of (says b.cells job)) one in
+    (set_jobs b.desks i (stepped b.setup i b.cells job desk).0 all both.0, both.1)
 
 served_short : (b : BenchState) (c : Call) → AreShortJobs b.desks → IsShortCall c → AreShortJobs (served b c).0.desks × IsTableReply (served b c).1
 served_short b (Take i item a segment) all short =
-    let desk : Desk = record { job = new_job b.setup i item a segment; held = (desk_at b.desks i).held } in
-    (set_jobs b.desks i desk all (job_short item a segment [] (next_move b.setup i a segment [] []).next short), tt)
+    let both = taken_short b.setup i item a segment (desk_at b.desks i) short in
+    (set_jobs b.desks i (taken b.setup i item a segment (desk_at b.desks i)).0 all both.0, both.1)
 served_short b (Step i) all short = step_short b i (job_at b.desks i) all (all i)
 served_short b (Crash i) all short = (set_jobs b.desks i empty_desk all tt, tt)
 served_short b (Fail place) all short = (all, tt)

@@ -30,7 +30,7 @@ use Rattle.run_threads.specs.Laws.{IsNamed}
 use Rattle.run_threads.specs.Outs.{IsTableReply}
 use Rattle.run_threads.specs.Run.{told_by, IsThreadRun}
 use Rattle.run_threads.specs.Work.{AreItems}
-use Rattle.run_threads.specs.declared.outcome.Outcome.{Outcome}
+use Rattle.run_threads.specs.Outcomes.{OutcomeView}
 use Rattle.run_threads.proofs.Determined.{IsMade, run_made}
 use Rattle.run_threads.proofs.Owners.{owner_there}
 use Rattle.run_threads.proofs.ShortReplies.{IsShortCall, answers_short, opening_short}
@@ -54,24 +54,24 @@ module _ (inputs : Inputs) (w g : ℕ) where
   crash_in n = crash_after (filter (is_due n) inputs.script.lines) w n
 
   -- this is told of the record, by these answers on the shard
-  pub record IsToldOn (n : ℕ) (frame : Frame) (o : Outcome) : Type 0 where
+  pub record IsToldOn (n : ℕ) (frame : Frame) (o : OutcomeView) : Type 0 where
     pub answers : List Answer
     pub table : AreTableReplies answers
     pub own : IsOwn inputs.setup w n (prepared_of inputs n frame) (crash_in n) o g answers
 
-  abbrev IsToldIf : ℕ → Frame → Option Outcome → Type 0
+  abbrev IsToldIf : ℕ → Frame → Option OutcomeView → Type 0
   IsToldIf n frame None = Unit {0}
   IsToldIf n frame (Some o) = IsToldOn n frame o
 
-  abbrev AreToldOn : ℕ → List Frame → List (Option Outcome) → Type 0
+  abbrev AreToldOn : ℕ → List Frame → List (Option OutcomeView) → Type 0
   AreToldOn n (frame ∷ frames) (o ∷ outcomes) = IsToldIf n frame o × AreToldOn (n + 1) frames outcomes
   AreToldOn n _ _ = Unit {0}
 
-  told_if : (n : ℕ) (frame : Frame) (o : Option Outcome) (answers : List Answer) → IsDone inputs w n (filter (is_due n) inputs.script.lines) frame o g answers → AreTableReplies answers → IsToldIf n frame o
+  told_if : (n : ℕ) (frame : Frame) (o : Option OutcomeView) (answers : List Answer) → IsDone inputs w n (filter (is_due n) inputs.script.lines) frame o g answers → AreTableReplies answers → IsToldIf n frame o
   told_if n frame None answers is table = tt
   told_if n frame (Some o) answers is table = record { answers = answers; table = table; own = is.1 }
 
-  items_told : (n : ℕ) (frames : List Frame) (outcomes : List (Option Outcome)) (answers : List Answer) → AreItems inputs w n frames outcomes g answers → AreTableReplies answers → AreToldOn n frames outcomes
+  items_told : (n : ℕ) (frames : List Frame) (outcomes : List (Option OutcomeView)) (answers : List Answer) → AreItems inputs w n frames outcomes g answers → AreTableReplies answers → AreToldOn n frames outcomes
   items_told n [] [] answers are table = tt
   items_told n [] (o ∷ outcomes) answers are table = tt
   items_told n (f ∷ frames) [] answers are table = tt
@@ -105,24 +105,24 @@ module _ (inputs : Inputs) (sized : IsSetup inputs.setup) (law : AssignedIsLivin
 
   -- ---- all records
   -- its owner tells it, on the record's shard
-  abbrev pub IsToldOf : ℕ → Frame → Outcome → Type 0
+  abbrev pub IsToldOf : ℕ → Frame → OutcomeView → Type 0
   IsToldOf n frame o = IsToldOn inputs (owner inputs n frame) (shard_for (prepared_of inputs n frame)) n frame o
 
-  abbrev pub EachTold : ℕ → List Frame → List Outcome → Type 0
+  abbrev pub EachTold : ℕ → List Frame → List OutcomeView → Type 0
   EachTold n [] [] = Unit {0}
   EachTold n (frame ∷ frames) (o ∷ outcomes) = IsToldOf n frame o × EachTold (n + 1) frames outcomes
   EachTold n _ _ = ⊥
 
-  abbrev AllTell : ℕ → List Frame → List Outcome → Type 0
+  abbrev AllTell : ℕ → List Frame → List OutcomeView → Type 0
   AllTell n frames outcomes = (w g : ℕ) → w < inputs.setup.instances → g < inputs.setup.shards → AreToldOn inputs w g n frames (told_by inputs w n frames outcomes)
 
-  first_told : (n : ℕ) (frame : Frame) (frames : List Frame) (o : Outcome) (outcomes : List Outcome) → AllTell n (frame ∷ frames) (o ∷ outcomes) → IsToldOf n frame o
+  first_told : (n : ℕ) (frame : Frame) (frames : List Frame) (o : OutcomeView) (outcomes : List OutcomeView) → AllTell n (frame ∷ frames) (o ∷ outcomes) → IsToldOf n frame o
   first_told n frame frames o outcomes all =
       let w = owner inputs n frame in
       let g = shard_for (prepared_of inputs n frame) in
       subst (λ t. IsToldIf inputs w g n frame (if t then Some o else None)) (eq-eqb w w refl) (all w g (owner_there law inputs sized n frame) (shard_there n (incoming inputs.trace frame))).0
 
-  each_told : (n : ℕ) (frames : List Frame) (outcomes : List Outcome) → length outcomes ≡ length frames → AllTell n frames outcomes → EachTold n frames outcomes
+  each_told : (n : ℕ) (frames : List Frame) (outcomes : List OutcomeView) → length outcomes ≡ length frames → AllTell n frames outcomes → EachTold n frames outcomes
   each_told n [] [] same all = tt
   each_told n [] (o ∷ outcomes) same all = absurd (omega (arith, same))
   each_told n (f ∷ frames) [] same all = absurd (omega (arith, same))

@@ -1,5 +1,5 @@
 -- How an instance handles a segment while others call the same bench: it takes the segment, and makes steps until one of its
--- calls is not answered Going.
+-- calls, the take among them, is not answered Going.
 use Rattle.std.specs.Prelude.{◌≡◌, ℕ, ◌≤◌, Bool, true, false, List, [], ◌∷◌, Option, Some, None, IsSome, Result, Ok, Err, unwrap_or}
 use Rattle.bench.specs.Blocks.{handling_calls, done_in, most_steps, limit_of}
 use Rattle.bench.specs.declared.call.Call.{Call}
@@ -45,7 +45,7 @@ is_going reply.Noted = false
 
 -- the verdict and the segments of a handling that came to this
 abbrev pub end_of : Result Reply Refused → Verdict × List Segment
-end_of (Ok (reply.Done verdict outs)) = (verdict, outs)
+end_of (Ok (reply.Done verdict outs)) = (verdict, outs.list)
 end_of (Ok reply.Going) = (Crashed, [])
 end_of (Ok reply.Idle) = (Crashed, [])
 end_of (Ok reply.Noted) = (Crashed, [])
@@ -53,7 +53,7 @@ end_of (Err refused) = (NoMemory refused.calls, [])
 
 -- .. by its Done, if it has one
 abbrev pub told_by_reply : Result Reply Refused → Option (Verdict × List Segment)
-told_by_reply (Ok (reply.Done verdict outs)) = Some (verdict, outs)
+told_by_reply (Ok (reply.Done verdict outs)) = Some (verdict, outs.list)
 told_by_reply (Ok reply.Going) = None
 told_by_reply (Ok reply.Idle) = None
 told_by_reply (Ok reply.Noted) = None

@@ -18,7 +18,7 @@ use Rattle.script_text.specs.declared.line.Line.TheVariants.{Give, Crash, Back, 
 use Rattle.tcp_segment.specs.declared.segment.Segment.{Segment}
 use Rattle.run_threads.specs.Answered.{Answer, calls_in}
 use Rattle.run_threads.specs.Handling.{IsHandled}
-use Rattle.run_threads.specs.declared.outcome.Outcome.{Outcome}
+use Rattle.run_threads.specs.Outcomes.{OutcomeView}
 
 -- ---- the script
 -- the replica that a line has fail before a record, where the record's number modulo the instances is the worker's
@@ -41,15 +41,15 @@ abbrev pub line_of : Option ℕ → Verdict → Line
 line_of instance verdict = record { instance = instance; verdict = verdict }
 
 -- a handling with this verdict and these segments to send
-abbrev pub outcome_of : ℕ → Verdict × List Segment → Outcome
+abbrev pub outcome_of : ℕ → Verdict × List Segment → OutcomeView
 outcome_of i end = record { line = line_of (Some i) end.0; outs = end.1 }
 
 -- a record that no instance handles
-abbrev pub ended : Verdict → Outcome
+abbrev pub ended : Verdict → OutcomeView
 ended v = record { line = line_of None v; outs = [] }
 
 -- memory was refused before there was anything to handle
-abbrev pub unprepared : Outcome
+abbrev pub unprepared : OutcomeView
 unprepared = ended (NoMemory 0)
 
 -- ---- the calls on one shard
@@ -59,7 +59,7 @@ pub record IsHandledAt (setup : SetupView) (i item : ℕ) (a : Aim) (segment : S
   pub there : shard ≢ own → answers ≡ []
 
 -- those of a handling, and of the crash in it or right after it
-pub record IsTurn (setup : SetupView) (i item : ℕ) (a : Aim) (segment : Segment) (own : ℕ) (after : Option ℕ) (outcome : Outcome) (shard : ℕ) (answers : List Answer) : Type 0 where
+pub record IsTurn (setup : SetupView) (i item : ℕ) (a : Aim) (segment : Segment) (own : ℕ) (after : Option ℕ) (outcome : OutcomeView) (shard : ℕ) (answers : List Answer) : Type 0 where
   -- the work is one that the bench of its shard may take
   pub fits : IsPrepared setup (Work a segment i own)
   -- after how many calls memory was refused, if it was
@@ -77,7 +77,7 @@ abbrev pub IsPassed : SetupView → ℕ → Option ℕ → ℕ → List Answer �
 IsPassed setup i after shard answers = calls_in answers ≡ history shard (crash_of setup i after)
 
 -- those of a worker whose record this is, of which this was to be done
-abbrev pub IsOwn : SetupView → ℕ → ℕ → Prepared → Option ℕ → Outcome → ℕ → List Answer → Type 0
+abbrev pub IsOwn : SetupView → ℕ → ℕ → Prepared → Option ℕ → OutcomeView → ℕ → List Answer → Type 0
 IsOwn setup i item (Ended v) after outcome shard answers = (outcome ≡ ended v) × IsPassed setup i after shard answers
 IsOwn setup i item (Work a segment instance own) after outcome shard answers =
     ((outcome ≡ unprepared) × IsPassed setup i after shard answers) ⊎ IsTurn setup i item a segment own after outcome shard answers
@@ -98,14 +98,14 @@ abbrev pub owner : Inputs → ℕ → Frame → ℕ
 owner inputs item frame = owner_by inputs.setup item (instance_of (prepared_of inputs item frame))
 
 -- the calls on one shard of a worker, and what it tells of the record
-abbrev pub IsDone : Inputs → ℕ → ℕ → List ScriptLine → Frame → Option Outcome → ℕ → List Answer → Type 0
+abbrev pub IsDone : Inputs → ℕ → ℕ → List ScriptLine → Frame → Option OutcomeView → ℕ → List Answer → Type 0
 IsDone inputs worker item lines frame None shard answers =
     (owner inputs item frame ≢ worker) × IsPassed inputs.setup worker (crash_after lines worker item) shard answers
 IsDone inputs worker item lines frame (Some outcome) shard answers =
     (owner inputs item frame ≡ worker) × IsOwn inputs.setup worker item (prepared_of inputs item frame) (crash_after lines worker item) outcome shard answers
 
 -- all calls on one shard of a worker at a record: first replicas fail
-pub record IsItem (inputs : Inputs) (worker item : ℕ) (lines : List ScriptLine) (frame : Frame) (told : Option Outcome) (shard : ℕ) (answers : List Answer) : Type 0 where
+pub record IsItem (inputs : Inputs) (worker item : ℕ) (lines : List ScriptLine) (frame : Frame) (told : Option OutcomeView) (shard : ℕ) (answers : List Answer) : Type 0 where
   pub failed : List Answer
   pub then_made : List Answer
   pub are : answers ≡ failed ++ then_made

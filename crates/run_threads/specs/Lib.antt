@@ -4,10 +4,12 @@ pub mod Due
 pub mod Handling
 pub mod Items
 pub mod Laws
+pub mod Outcomes
 pub mod Outs
 pub mod Owners
 pub mod Pool
 pub mod Run
 pub mod Seats
 pub mod Stays
+pub mod Tales
 pub mod Work

@@ -13,7 +13,7 @@ IsShort out = written_length out.head (length out.body) ≤ 65515
 
 -- a reply's verdict is neither of a crash nor of want of memory, and each segment that it names fits a packet
 abbrev pub IsTableReply : Reply → Type 0
-IsTableReply (reply.Done verdict outs) = IsTold verdict × AllByRecursion IsShort outs
+IsTableReply (reply.Done verdict outs) = IsTold verdict × AllByRecursion IsShort outs.list
 IsTableReply reply.Going = Unit {0}
 IsTableReply reply.Idle = Unit {0}
 IsTableReply reply.Noted = Unit {0}

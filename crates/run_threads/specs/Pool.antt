@@ -13,7 +13,6 @@ use Rattle.bench.specs.Bench.{BenchState}
 use Rattle.bench.specs.Calls.{IsCall}
 use Rattle.bench.specs.declared.call.Call.{Call}
 use Rattle.run_threads.specs.Answered.{answered}
-use Rattle.run_threads.specs.declared.run.Told.{Told}
 use Rattle.bench.specs.Histories.{opening}
 use Rattle.bench.specs.declared.input.inputs.Inputs.{Inputs}
 use Rattle.pcap_file.specs.declared.capture.Frame.{Frame}
@@ -21,7 +20,9 @@ use Rattle.rule_table.specs.Setups.{SetupView}
 use Rattle.run_threads.specs.Owners.{AreOwners}
 use Rattle.run_threads.specs.Seats.{BenchLock, BenchSeat, IsAt, answers}
 use Rattle.run_threads.specs.Work.{AreItems, numbered}
-use Rattle.run_threads.specs.declared.outcome.Outcome.{Outcome}
+use Rattle.run_threads.specs.Outcomes.{OutcomeView}
+use Rattle.run_threads.specs.Tales.{Tells}
+use Rattle.run_threads.specs.declared.tale.Tale.{Tale}
 use Rattle.run_threads.specs.declared.run.Back.{Back}
 use Rattle.run_threads.specs.declared.run.Crew.{Crew}
 
@@ -60,17 +61,17 @@ pub record IsReturned (worker : ℕ) (lock : BenchLock) (s : BenchSeat) : Type 0
   pub deaf : joined_seen s ≡ []
 
 -- a worker's seats that come back, where it has told this
-pub record HasWorked (inputs : Inputs) (worker : ℕ) (frames : List Frame) (locks : List BenchLock) (seats : List BenchSeat) (told : List (ℕ × Outcome)) : Type 0 where
+pub record HasWorked (inputs : Inputs) (worker : ℕ) (frames : List Frame) (locks : List BenchLock) (seats : List BenchSeat) (tale : Tale) : Type 0 where
   pub many : length seats ≡ inputs.setup.shards
-  pub outcomes : List (Option Outcome)
-  pub told_are : told ≡ numbered 0 outcomes
+  pub outcomes : List (Option OutcomeView)
+  pub tells : Tells tale (numbered 0 outcomes)
   pub returned : (shard : ℕ) (l : BenchLock) (s : BenchSeat) → shard < inputs.setup.shards → IsReturned worker (slice_index_or locks shard l) (slice_index_or seats shard s)
   pub items : (shard : ℕ) (l : BenchLock) (s : BenchSeat) → shard < inputs.setup.shards
       → AreItems inputs worker 0 frames outcomes shard (answers (slice_index_or locks shard l) (slice_index_or seats shard s))
 
 -- what a worker gives back, where it found memory
 abbrev pub IsBackOf : Inputs → ℕ → List Frame → List BenchLock → Back → Type 0
-IsBackOf inputs worker frames locks back = IfOk back.told (λ told. HasWorked inputs worker frames locks back.seats.items told.items)
+IsBackOf inputs worker frames locks back = IfOk back.told (λ tale. HasWorked inputs worker frames locks back.seats.items tale)
 
 -- a worker's number and its seats
 pub record IsCrewOf (shards worker : ℕ) (locks : List BenchLock) (crew : Crew) : Type 0 where
@@ -113,19 +114,19 @@ pub record Fits (s : BenchSeat) (history : List (Entry Call)) : Type 0 where
   pub heard : (h : List (Entry Call)) → Contains (joined_seen s) h → Begins history h
 
 -- a worker has told this: in each history that its seats fit its calls are those of its items
-pub record HasTold (inputs : Inputs) (worker : ℕ) (frames : List Frame) (first : List BenchSeat) (told : List (ℕ × Outcome)) : Type 0 where
-  pub outcomes : List (Option Outcome)
-  pub told_are : told ≡ numbered 0 outcomes
+pub record HasTold (inputs : Inputs) (worker : ℕ) (frames : List Frame) (first : List BenchSeat) (tale : Tale) : Type 0 where
+  pub outcomes : List (Option OutcomeView)
+  pub tells : Tells tale (numbered 0 outcomes)
   pub items : (shard : ℕ) (l : BenchLock) (s : BenchSeat) → shard < inputs.setup.shards → (history : List (Entry Call)) → Fits (slice_index_or first shard s) history
       → AreItems inputs worker 0 frames outcomes shard (answered (worker + 1) (opening inputs.setup shard) history)
 
--- the seats of the workers from this one on were joined into these, and this was told, the last worker's first
-pub record AreJoined (inputs : Inputs) (frames : List Frame) (from : ℕ) (locks : List BenchLock) (first : List BenchSeat) (told : List Told) : Type 0 where
-  pub many : length told + from ≡ inputs.setup.instances
+-- the seats of the workers from this one on were joined into these, and these are the workers' tales, the last worker's first
+pub record AreJoined (inputs : Inputs) (frames : List Frame) (from : ℕ) (locks : List BenchLock) (first : List BenchSeat) (tales : List Tale) : Type 0 where
+  pub many : length tales + from ≡ inputs.setup.instances
   pub seats_many : length first ≡ inputs.setup.shards
   pub seats : (shard : ℕ) (l : BenchLock) (s : BenchSeat) → shard < inputs.setup.shards → HasJoined inputs.setup.instances from (slice_index_or locks shard l) (slice_index_or first shard s)
-  pub workers : (worker : ℕ) (d : Told) → from ≤ worker → worker < inputs.setup.instances
-      → HasTold inputs worker frames first (slice_index_or told (inputs.setup.instances - 1 - worker) d).items.items
+  pub workers : (worker : ℕ) (d : Tale) → from ≤ worker → worker < inputs.setup.instances
+      → HasTold inputs worker frames first (slice_index_or tales (inputs.setup.instances - 1 - worker) d)
 
 -- another seat was joined into this one
 pub record IsJoin (lock : BenchLock) (old other new : BenchSeat) : Type 0 where

@@ -13,13 +13,13 @@ mod outcome;
 mod owner;
 mod run;
 mod seat;
+mod tale;
 mod worker;
 
 pub use gate::{Gate, OpenGate};
 pub use laws::{calls_are_named, journal_determines, verdicts_are_caused};
 pub use object::BenchObject;
-pub use outcome::Outcome;
-pub use run::{RunResult, frames_of, run_all};
+pub use run::{RunResult, frames_of, run_all, run_frames};
 
 #[cfg(test)]
 mod tests;

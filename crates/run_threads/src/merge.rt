@@ -1,90 +1,75 @@
 //! What the workers tell, put into one list for all records.
-ghost use Rattle.std.specs.Prelude.{◌≡◌, ◌≢◌, ◌<◌, ◌≤◌, ◌+◌, ◌*◌, ◌++◌, ◌^◌, ℕ, All, length, map, reverse, slice_index_or, IfOk, OnOk, IsSome, ◌↔◌, option_to_list};
+ghost use Rattle.std.specs.Prelude.{◌≡◌, ◌≢◌, ◌<◌, ◌≤◌, ◌*◌, ◌^◌, ℕ, [], length, reverse, slice_index_or, IfOk, OnOk};
 ghost use Rattle.bench.specs.Inputs.{IsInputs};
 ghost use Rattle.run_threads.specs.Owners.{AreOwners};
-ghost use Rattle.run_threads.specs.Run.{AreTales, AreMerged, IsMerged, outs_of};
-ghost use Rattle.run_threads.specs.declared.run.Told.{Told as ToldOf};
+ghost use Rattle.run_threads.specs.Run.{AreTales, IsMerged, AreGathered};
+ghost use Rattle.run_threads.specs.Tales.{TakesLast};
+ghost use Rattle.run_threads.specs.declared.tale.Tale.{Tale as TaleOf};
 
-use crate::outcome::Outcome;
 use crate::owner::owner_at;
-use crate::run::Told;
-use bench::input::{Inputs, Lines, Result1, Sent};
+use crate::tale::Tale;
+use bench::input::{Inputs, Line, Lines, Result1, Sent};
 use pcap_file::Frame;
 use std::alloc::{AllocError, Global};
-use tcp_segment::{Outs, Segment};
+use tcp_segment::Segment;
 
-/// Takes out what is told last in the tale at this place.
-fn last_told(told: &mut [Told], place: usize) -> Option<(u32, Outcome)>
-    requires { place < length told.old }
-    ensures many { length told.new ≡ length told.old }
-    ensures others { (k : ℕ) (d : ToldOf) → k ≢ place → slice_index_or told.new k d ≡ slice_index_or told.old k d }
-    ensures popped { (d : ToldOf) → (slice_index_or told.old place d).items.items ≡ (slice_index_or told.new place d).items.items ++ option_to_list result }
-    ensures variant { (d : ToldOf) → IsSome result ↔ (0 < length (slice_index_or told.old place d).items.items) }
+/// Takes the last line out of the tale at this place, that of the record with this number, and adds what is sent for it to the
+/// list, the last segment first.
+fn take_last(
+    tales: &mut [Tale],
+    place: usize,
+    item: u32,
+    sent: &mut Vec<(u32, Segment)>,
+) -> Result<Line, AllocError>
+    requires place { place < length tales.old }
+    requires some { (d : TaleOf) → 0 < length (slice_index_or tales.old place d).lines.items }
+    ensures many { length tales.new ≡ length tales.old }
+    ensures others { (k : ℕ) (d : TaleOf) → k ≢ place → slice_index_or tales.new k d ≡ slice_index_or tales.old k d }
+    ensures last { IfOk result (λ line. (d : TaleOf) → TakesLast item (slice_index_or tales.old place d) (slice_index_or tales.new place d) sent.old.items sent.new.items line) }
 {
-    told[place].items.pop()
+    tales[place].take_last(item, sent)
 }
 
-/// What became of the records, the last one's first: each is told by the worker whose record it is. The one error is want of
-/// memory.
+/// Takes the lines of all records and what is sent for them out of the tales, from the last record on: each is told by the
+/// worker whose record it is. The one error is want of memory.
 fn gather(
-    alloc: Global,
     inputs: &Inputs,
     frames: &[Frame],
     owners: &[u16],
-    told: &mut [Told],
-) -> Result<Vec<Outcome>, AllocError>
+    tales: &mut [Tale],
+    lines: &mut Vec<Line>,
+    sent: &mut Vec<(u32, Segment)>,
+) -> Result<(), AllocError>
     requires inputs { IsInputs inputs.now }
     requires few { length frames.now < 2 ^ 32 }
     requires owners { AreOwners inputs.now frames.now owners.now }
-    requires told { AreTales inputs.now frames.now told.old }
-    ensures merged { IfOk result (λ r. AreMerged inputs.now frames.now told.old (reverse r.items)) }
-    ensures count { IfOk result (λ r. length r.items ≡ length frames.now) }
+    requires tales { AreTales inputs.now frames.now tales.old }
+    requires no_lines { lines.old.items ≡ [] }
+    requires none_sent { sent.old.items ≡ [] }
+    ensures { OnOk result (AreGathered inputs.now frames.now tales.old lines.new.items sent.new.items) }
 {
-    let mut outcomes = Vec::with_capacity(alloc, frames.len())?;
     let mut left = frames.len();
     while left > 0 {
         left -= 1;
         let who = owner_at(inputs, frames, owners, left);
-        let place = told.len() - 1 - who as usize;
-        let (_, outcome) = last_told(told, place).unwrap();
-        outcomes.push(outcome)?;
-    }
-    Ok(outcomes)
-}
-
-/// Adds what is sent for the record with this number.
-fn add_outs(sent: &mut Vec<(u32, Segment)>, item: u32, outs: Outs) -> Result<(), AllocError>
-    ensures sent { OnOk result (sent.new.items ≡ sent.old.items ++ map (λ out. (item, out)) outs) }
-    ensures few { OnOk result (length sent.new.items ≤ length sent.old.items + 11) }
-{
-    outs.known();
-    for out in outs.into_vec() {
-        sent.push((item, out))?;
+        let place = tales.len() - 1 - who as usize;
+        let line = take_last(tales, place, left as u32, sent)?;
+        lines.push(line)?;
     }
     Ok(())
 }
 
-/// The lines of these outcomes, of which the first record's is the last, and what is sent in them. The one error is want of
-/// memory.
-fn lay_out(alloc: Global, mut outcomes: Vec<Outcome>) -> Result<Result1, AllocError>
-    requires { length outcomes.items < 2 ^ 32 }
-    ensures lines { IfOk result (λ r. r.lines ≡ map (λ o. o.line) (reverse outcomes.items)) }
-    ensures sent { IfOk result (λ r. r.outs ≡ outs_of 0 (reverse outcomes.items)) }
-    ensures few { IfOk result (λ r. length r.outs ≤ 11 * length outcomes.items) }
+/// The lines and the segments in the order of the records, where they stand the other way round.
+fn turned(mut lines: Vec<Line>, mut sent: Vec<(u32, Segment)>) -> Result1
+    ensures lines { result.lines ≡ reverse lines.items }
+    ensures sent { result.outs ≡ reverse sent.items }
 {
-    let mut lines = Vec::with_capacity(alloc, outcomes.len())?;
-    let mut sent = Vec::with_capacity(alloc, outcomes.len())?;
-    let mut item = 0;
-    while let Some(outcome) = outcomes.pop() {
-        let Outcome { line, outs } = outcome;
-        lines.push(line)?;
-        add_outs(&mut sent, item, outs)?;
-        item += 1;
-    }
-    Ok(Result1 {
+    lines.reverse();
+    sent.reverse();
+    Result1 {
         lines: Lines::new(lines),
         outs: Sent::new(sent),
-    })
+    }
 }
 
 /// Puts what the workers tell into one list for all records, in their order. The one error is want of memory.
@@ -93,15 +78,17 @@ pub(crate) fn merge(
     inputs: &Inputs,
     frames: &[Frame],
     owners: &[u16],
-    mut told: Vec<Told>,
+    mut tales: Vec<Tale>,
 ) -> Result<Result1, AllocError>
     requires inputs { IsInputs inputs.now }
     requires few { length frames.now < 2 ^ 32 }
     requires owners { AreOwners inputs.now frames.now owners.now }
-    requires told { AreTales inputs.now frames.now told.items }
-    ensures merged { IfOk result (λ r. IsMerged inputs.now frames.now told.items r.lines r.outs) }
+    requires tales { AreTales inputs.now frames.now tales.items }
+    ensures merged { IfOk result (λ r. IsMerged inputs.now frames.now tales.items r.lines r.outs) }
     ensures few { IfOk result (λ r. length r.outs ≤ 11 * length frames.now) }
 {
-    let outcomes = gather(alloc, inputs, frames, owners, &mut told)?;
-    lay_out(alloc, outcomes)
+    let mut lines = Vec::with_capacity(alloc, frames.len())?;
+    let mut sent = Vec::with_capacity(alloc, frames.len())?;
+    gather(inputs, frames, owners, &mut tales, &mut lines, &mut sent)?;
+    Ok(turned(lines, sent))
 }

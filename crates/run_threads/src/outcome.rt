@@ -7,13 +7,22 @@ use bench::Reply;
 use bench::input::Line;
 use job_core::Verdict;
 use std::alloc::Global;
+use std::marker::Model;
 use tcp_segment::Outs;
 
-/// What became of a record: its line, and the segments that are sent for it.
+/// What became of a record: its line, and the segments that are sent for it. Contracts see the list of them.
 #[derive(Debug, Drop)]
-pub struct Outcome {
-    pub line: Line,
-    pub outs: Outs,
+pub(crate) struct Outcome {
+    pub(crate) line: Line,
+    pub(crate) outs: Outs,
+}
+
+impl Model for Outcome {
+    ghost use Rattle.run_threads.specs.Outcomes.{OutcomeView};
+
+    ghost Value = { OutcomeView };
+
+    ghost view = { λ o. record { line = o.line; outs = o.outs.list } };
 }
 
 /// A record whose handling came to this.

@@ -14,8 +14,8 @@ use crate::due::Due;
 use crate::gate::Gate;
 use crate::merge::merge;
 use crate::object::{BenchObject, BoxedBench};
-use crate::outcome::Outcome;
 use crate::owner::owners;
+use crate::tale::Tale;
 use crate::worker::work;
 use bench::input::{Inputs, Result1};
 use bench::{Bench, Call};
@@ -46,7 +46,7 @@ pub(crate) struct Crew {
 #[derive(Drop)]
 pub(crate) struct Back {
     seats: Vec<SeenSeat<BenchObject>>,
-    told: Result<Vec<(u32, Outcome)>, AllocError>,
+    told: Result<Tale, AllocError>,
 }
 
 /// The frames that a reader of the trace finds.
@@ -162,9 +162,9 @@ fn serve<G: Gate, R: Wait>(
     match work(
         rt, alloc, inputs, frames, owners, due, locks, &mut seats, worker, gate,
     ) {
-        Ok(told) => Back {
+        Ok(tale) => Back {
             seats,
-            told: Ok(told),
+            told: Ok(tale),
         },
         Err(refused) => Back {
             seats,
@@ -204,12 +204,6 @@ fn run_workers<G: Gate + Sync, R: Threads + Wait + Sync>(
     )
 }
 
-/// What a worker tells: of records with their numbers.
-#[derive(Drop)]
-pub(crate) struct Told {
-    pub items: Vec<(u32, Outcome)>,
-}
-
 /// Joins each of the seats into the first one of its lock.
 fn join_all(
     locks: &[SeenLock<BenchObject>],
@@ -226,7 +220,8 @@ fn join_all(
     }
 }
 
-/// Takes the seats of all workers in again, and hands out what the workers tell. The one error is want of memory.
+/// Takes the seats of all workers in again, and hands out what the workers tell, the last worker's tale first. The one error is
+/// want of memory.
 fn take_in(
     alloc: Global,
     inputs: &Inputs,
@@ -234,20 +229,20 @@ fn take_in(
     locks: &[SeenLock<BenchObject>],
     first: &mut [SeenSeat<BenchObject>],
     mut backs: Vec<Back>,
-) -> Result<Vec<Told>, AllocError>
+) -> Result<Vec<Tale>, AllocError>
     requires locks { AreLocks inputs.now.setup inputs.now.setup.shards locks.now }
     requires first { AreFresh 0 inputs.now.setup.instances inputs.now.setup.shards locks.now first.old }
     requires backs { AreBacks inputs.now frames.now locks.now backs.items }
-    ensures { IfOk result (λ told. AreJoined inputs.now frames.now 0 locks.now first.new told.items) }
+    ensures { IfOk result (λ tales. AreJoined inputs.now frames.now 0 locks.now first.new tales.items) }
 {
     let _ = inputs;
     let _ = frames;
     let mut all = Vec::with_capacity(alloc, backs.len())?;
     while let Some(back) = backs.pop() {
         let Back { seats, told } = back;
-        let items = told?;
+        let tale = told?;
         join_all(locks, first, seats);
-        all.push(Told { items })?;
+        all.push(tale)?;
     }
     Ok(all)
 }
@@ -281,7 +276,7 @@ fn run_locked<G: Gate + Sync, R: Threads + Wait + Sync>(
     frames: &[Frame],
     owners: &[u16],
     gate: &G,
-) -> Result<(Vec<Told>, Vec<Vec<Entry<Call>>>), AllocError>
+) -> Result<(Vec<Tale>, Vec<Vec<Entry<Call>>>), AllocError>
     requires inputs { IsInputs inputs.now }
     requires frames { frames.now ≡ (capture_of inputs.now.trace).frames }
     requires inside { All (λ f. f.at + f.kept ≤ length inputs.now.trace) frames.now }
@@ -293,16 +288,45 @@ fn run_locked<G: Gate + Sync, R: Threads + Wait + Sync>(
     let (locks, mut first) = open_locks(alloc, &inputs.setup)?;
     let crews = crews_of(alloc, &inputs.setup, &locks, &mut first)?;
     let backs = run_workers(rt, alloc, inputs, frames, owners, &due, &locks, crews, gate)?;
-    let told = take_in(alloc, inputs, frames, &locks, &mut first, backs)?;
+    let tales = take_in(alloc, inputs, frames, &locks, &mut first, backs)?;
     let histories = close_all(alloc, &inputs.setup, locks, first)?;
-    Ok((told, histories))
+    Ok((tales, histories))
 }
 
-/// Handles the records of the trace with one worker for each instance, over a lock for each shard's bench, with what the
-/// script does before and in them. It may wait, for other callers of a lock and for the threads.
+/// Handles the records of the trace, which have these frames, with one worker for each instance, over a lock for each shard's
+/// bench, with what the script does before and in them. It may wait, for other callers of a lock and for the threads.
 ///
 /// The one error is want of memory, for the locks, the lists, the threads, or a crash or a failure. A record whose own memory
 /// was refused ends with [`job_core::Verdict::NoMemory`] and the number of its bench calls that were made.
+pub fn run_frames<G: Gate + Sync, R: Threads + Wait + Sync>(
+    rt: &R,
+    alloc: Global,
+    inputs: &Inputs,
+    frames: &[Frame],
+    gate: &G,
+) -> Result<RunResult, AllocError>
+    requires inputs { IsInputs inputs.now }
+    requires frames { frames.now ≡ (capture_of inputs.now.trace).frames }
+    requires inside { All (λ f. f.at + f.kept ≤ length inputs.now.trace) frames.now }
+    // The lines and the segments are those of a run whose histories these are.
+    ensures run { IfOk result (λ r. IsThreadRun inputs.now r.result.lines r.result.outs (map (λ h. h.items) r.histories.items)) }
+    // Each segment that is sent fits a packet, and has the number of a record.
+    ensures sent { IfOk result (λ r. AllByRecursion (IsSent inputs.now.records) r.result.outs) }
+    ensures lines { IfOk result (λ r. length r.result.lines ≡ inputs.now.records) }
+    ensures few { IfOk result (λ r. length r.result.outs ≤ 11 * inputs.now.records) }
+{
+    assignments();
+    inputs.setup.known();
+    let owners = owners(rt, alloc, inputs, frames)?;
+    let (tales, histories) = run_locked(rt, alloc, inputs, frames, &owners, gate)?;
+    let merged = merge(alloc, inputs, frames, &owners, tales)?;
+    Ok(RunResult {
+        result: merged,
+        histories,
+    })
+}
+
+/// Handles the records of the trace with one worker for each instance, as [`run_frames`] does, whose errors it has.
 pub fn run_all<G: Gate + Sync, R: Threads + Wait + Sync>(
     rt: &R,
     alloc: Global,
@@ -317,14 +341,6 @@ pub fn run_all<G: Gate + Sync, R: Threads + Wait + Sync>(
     ensures lines { IfOk result (λ r. length r.result.lines ≡ inputs.now.records) }
     ensures few { IfOk result (λ r. length r.result.outs ≤ 11 * inputs.now.records) }
 {
-    assignments();
-    inputs.setup.known();
     let frames = frames_of(alloc, inputs)?;
-    let owners = owners(rt, alloc, inputs, &frames)?;
-    let (told, histories) = run_locked(rt, alloc, inputs, &frames, &owners, gate)?;
-    let merged = merge(alloc, inputs, &frames, &owners, told)?;
-    Ok(RunResult {
-        result: merged,
-        histories,
-    })
+    run_frames(rt, alloc, inputs, &frames, gate)
 }

@@ -1,57 +1,42 @@
-use Rattle.std.proofs.Common.{◌≡◌, ◌+◌, ◌-◌, ◌<◌, [], ◌∷◌, List, length, reverse, ap, sym, subst, ◌∙◌, refl, arith}
-use Rattle.std.proofs.lemmas.List.{length-append}
-use Rattle.run_threads.specs.declared.outcome.Outcome.{Outcome}
+use Rattle.std.proofs.Common.{◌-◌, ◌<◌, length, ap, refl, arith}
 use Rattle.run_threads.proofs.Done.{element}
-use Rattle.run_threads.proofs.Merging.{IsLeft, none_left, all_merged, some_told, put_next}
+use Rattle.run_threads.proofs.Merging.{none_taken, all_taken, some_told, taken_next}
 use Rattle.run_threads.proofs.merge.gather.Goals as goal
 
 pub loop-left-init : goal.loop-left-init
 loop-left-init c =
-    let inputs = c.args.inputs.now in
-    let frames = c.args.frames.now in
-    let told = c.args.told.now in
-    let none : c.in_ok-outcomes.outcomes.items ≡ [] = c.in_ok-outcomes.ensures.items in record {
-      count = ap (λ (l : List Outcome). length l + length frames) none ∙ (let e : 0 + length frames ≡ length frames = omega arith in e);
-      left = subst (λ (l : List Outcome). IsLeft inputs frames told told (length frames) (reverse l)) (sym none) (none_left inputs frames told c.requires.told);
-    }
+    none_taken c.args.inputs.now c.args.frames.now c.args.tales.now c.requires.tales c.args.lines.now.items c.args.sent.now.items c.requires.no_lines c.requires.none_sent
 
-pub unwrap-outcome-requires : goal.unwrap-outcome-requires
-unwrap-outcome-requires c =
+pub take_last-requires-clause-some : goal.take_last-requires-clause-some
+take_last-requires-clause-some c =
     let inputs = c.args.inputs.now in
     let frames = c.args.frames.now in
-    let inv = c.loop-left.invariant in
+    let taken = c.loop-left.invariant in
     let n = c.loop-left.left - 1 in
     let t = c.loop-left-test.true in
-    let count = inv.count in
+    let count = taken.count in
     let who = c.owner_at-who.result in
     let within : n < length frames = omega (arith, t, count) in
     let f = element frames n within in
-    some_told inputs frames c.args.told.now c.loop-left.told n c.loop-left.left n who _ (reverse c.loop-left.outcomes.items) f c.last_told.result
-    (omega (arith, t)) within (c.owner_at-who.ensures.which f) refl c.owner_at-who.ensures.there (ap (λ k. k - 1 - who) inv.left.many) inv.left c.requires.told c.last_told.ensures.variant
+    some_told inputs frames c.args.tales.now c.loop-left.tales n c.loop-left.left n who _ c.loop-left.lines.items c.loop-left.sent.items f (omega (arith, t)) within (c.owner_at-who.ensures.which f) refl c.owner_at-who.ensures.there
+    (ap (λ k. k - 1 - who) taken.left.many) c.requires.tales taken
 
 pub loop-left-preserved : goal.loop-left-preserved
 loop-left-preserved c =
     let inputs = c.args.inputs.now in
     let frames = c.args.frames.now in
-    let inv = c.loop-left.invariant in
+    let taken = c.loop-left.invariant in
     let n = c.loop-left.left - 1 in
     let t = c.loop-left-test.true in
-    let count = inv.count in
+    let count = taken.count in
     let who = c.owner_at-who.result in
     let within : n < length frames = omega (arith, t, count) in
     let f = element frames n within in
-    let items : List Outcome = c.loop-left.outcomes.items in
-    let items' : List Outcome = c.push.new.self.items in
-    let e = c.unwrap-outcome.result in
-    let pushed = c.in_ok-push.ensures.items in
-    let long = ap length pushed ∙ length-append items (e.1 ∷ []) in record {
-      count = omega (arith, long, count, t);
-      left = put_next inputs frames c.args.told.now c.loop-left.told n c.loop-left.left n who _ (reverse c.loop-left.outcomes.items) f c.last_told.result
-          (omega (arith, t)) within (c.owner_at-who.ensures.which f) refl c.owner_at-who.ensures.there (ap (λ k. k - 1 - who) inv.left.many) inv.left
-          c.last_told.new.told items items' e c.unwrap-outcome.ensures refl pushed c.last_told.ensures.many c.last_told.ensures.others c.last_told.ensures.popped;
-    }
+    taken_next inputs frames c.args.tales.now c.loop-left.tales n c.loop-left.left n who _ c.loop-left.lines.items c.loop-left.sent.items f (omega (arith, t)) within (c.owner_at-who.ensures.which f) refl c.owner_at-who.ensures.there
+    (ap (λ k. k - 1 - who) taken.left.many) c.requires.tales taken c.take_last.new.tales c.push.new.self.items c.take_last.new.sent.items c.in_ok-line.line
+    c.take_last.ensures.many c.take_last.ensures.others c.in_ok-line.ensures.last c.in_ok-push.ensures.items
 
-pub returns-clause-merged : goal.returns-clause-merged
-returns-clause-merged c =
+pub returns : goal.returns
+returns c =
     let f = c.loop-left-test.false in
-    all_merged c.args.inputs.now c.args.frames.now c.args.told.now c.loop-left.told c.loop-left.left (reverse c.loop-left.outcomes.items) (omega (arith, f)) c.loop-left.invariant.left
+    all_taken c.args.inputs.now c.args.frames.now c.args.tales.now c.loop-left.tales c.loop-left.left c.loop-left.lines.items c.loop-left.sent.items (omega (arith, f)) c.loop-left.invariant

@@ -1,11 +1,22 @@
-use Rattle.std.proofs.Common.{reverse, subst}
-use Rattle.run_threads.specs.Run.{AreMerged}
-use Rattle.run_threads.proofs.Merging.{is_merged}
+use Rattle.std.proofs.Common.{length, reverse, ap, ◌∙◌, subst, arith}
+use Rattle.std.proofs.lemmas.List.{length-reverse, reverse-reverse}
+use Rattle.run_threads.specs.Run.{AreGathered}
 use Rattle.run_threads.proofs.merge.merge.Goals as goal
 
 pub returns-clause-merged : goal.returns-clause-merged
 returns-clause-merged c =
     let inputs = c.args.inputs.now in
     let frames = c.args.frames.now in
-    is_merged inputs frames c.args.told.items c.in_ok-outcomes.outcomes.items c.lay_out.result c.lay_out.ensures.lines c.lay_out.ensures.sent
-    (subst (λ z. AreMerged inputs frames z (reverse c.in_ok-outcomes.outcomes.items)) c.deref_mut.ensures.value c.in_ok-outcomes.ensures.merged) c.in_ok-outcomes.ensures.count
+    let gathered : AreGathered inputs frames c.args.tales.items c.gather.new.lines.items c.gather.new.sent.items =
+    subst (λ z. AreGathered inputs frames z c.gather.new.lines.items c.gather.new.sent.items) c.deref_mut.ensures.value c.in_ok-gather.ensures in record {
+      outcomes = gathered.outcomes;
+      count = gathered.count;
+      line = c.turned.ensures.lines ∙ (ap reverse gathered.line ∙ reverse-reverse _);
+      sent = c.turned.ensures.sent ∙ (ap reverse gathered.sent ∙ reverse-reverse _);
+      merged = gathered.merged;
+    }
+
+pub returns-clause-few : goal.returns-clause-few
+returns-clause-few c =
+    let few = c.in_ok-gather.ensures.few in
+    let long = ap length c.turned.ensures.sent ∙ length-reverse c.gather.new.sent.items in omega (arith, few, long)

@@ -19,9 +19,9 @@ returns-in-Ok g c =
     let w = c.args.crew.worker in
     let old : List BenchSeat = c.args.crew.seats.items in
     let new : List BenchSeat = c.work.new.seats in
-    let told = c.in-Ok.told.items in
-    let done : IsWorkDone inputs w frames locks c.deref_mut.result.now new told = c.in-Ok.ensures.works in
+    let tale = c.in-Ok.tale in
+    let done : IsWorkDone inputs w frames locks c.deref_mut.result.now new tale = c.in-Ok.ensures.works in
     let same = done.does.count in
     let len = c.deref_mut.ensures.len in
-    subst (λ z. HasWorked inputs w frames locks z told) (sym (written_back c.args.crew.seats.len new old (omega (arith, same, len))))
-    (has_worked inputs w frames locks c.requires.locks.many old new told c.requires.seats (subst (λ z. IsWorkDone inputs w frames locks z new told) c.deref_mut.ensures.value done))
+    subst (λ z. HasWorked inputs w frames locks z tale) (sym (written_back c.args.crew.seats.len new old (omega (arith, same, len))))
+    (has_worked inputs w frames locks c.requires.locks.many old new tale c.requires.seats (subst (λ z. IsWorkDone inputs w frames locks z new tale) c.deref_mut.ensures.value done))

@@ -2,7 +2,6 @@ use Rattle.std.proofs.Common.{◌≡◌, ◌<◌, ◌++◌, ◌∷◌, [], List,
 use Rattle.std.proofs.lemmas.List.{take_all}
 use Rattle.run_threads.specs.Pool.{AreJoined, IsBackOf, HasWorked}
 use Rattle.run_threads.specs.declared.run.Back.{Back}
-use Rattle.run_threads.specs.declared.run.Told.{Told}
 use Rattle.run_threads.proofs.Taken.{none_taken, taken_in, joined_seats, returned_seats, popped_is, popped_rest, popped_long}
 use Rattle.run_threads.proofs.run.take_in.Goals as goal
 
@@ -32,8 +31,8 @@ join_all-requires-clause-seats c =
     let long = popped_long rest now back popped in
     let within : length now < inputs.setup.instances = omega (arith, many, long) in
     let here : IsBackOf inputs (length now) frames locks back = subst (λ b. IsBackOf inputs (length now) frames locks b) (popped_is all rest now back back inv.rest popped) (c.requires.backs.each (length now) back within) in
-    let worked : HasWorked inputs (length now) frames locks back.seats.items c.in_ok-items.items.items = subst (λ r. IfOk r (λ told. HasWorked inputs (length now) frames locks back.seats.items told.items)) c.in_ok-items.was here in
-    returned_seats inputs frames locks (length now) back.seats.items c.in_ok-items.items.items c.requires.locks.many worked
+    let worked : HasWorked inputs (length now) frames locks back.seats.items c.in_ok-tale.tale = subst (λ r. IfOk r (λ tale. HasWorked inputs (length now) frames locks back.seats.items tale)) c.in_ok-tale.was here in
+    returned_seats inputs frames locks (length now) back.seats.items c.in_ok-tale.tale c.requires.locks.many worked
 
 pub loop-back-preserved : goal.loop-back-preserved
 loop-back-preserved c =
@@ -50,9 +49,9 @@ loop-back-preserved c =
     let long = popped_long rest now back popped in
     let within : length now < inputs.setup.instances = omega (arith, many, long) in
     let here : IsBackOf inputs (length now) frames locks back = subst (λ b. IsBackOf inputs (length now) frames locks b) (popped_is all rest now back back inv.rest popped) (c.requires.backs.each (length now) back within) in
-    let worked : HasWorked inputs (length now) frames locks back.seats.items c.in_ok-items.items.items = subst (λ r. IfOk r (λ told. HasWorked inputs (length now) frames locks back.seats.items told.items)) c.in_ok-items.was here in
-    let t : Told = record { items = c.in_ok-items.items } in record {
+    let worked : HasWorked inputs (length now) frames locks back.seats.items c.in_ok-tale.tale = subst (λ r. IfOk r (λ tale. HasWorked inputs (length now) frames locks back.seats.items tale)) c.in_ok-tale.was here in
+    record {
       rest = popped_rest all rest now back inv.rest popped;
-      joined = taken_in inputs frames locks (length now) c.loop-back.first c.join_all.new.first back.seats.items c.loop-back.all.items c.push.new.self.items t c.requires.locks
+      joined = taken_in inputs frames locks (length now) c.loop-back.first c.join_all.new.first back.seats.items c.loop-back.all.items c.push.new.self.items c.in_ok-tale.tale c.requires.locks
           (subst (λ k. AreJoined inputs frames k locks c.loop-back.first c.loop-back.all.items) long inv.joined) worked c.join_all.ensures c.in_ok-push.ensures.items;
     }
