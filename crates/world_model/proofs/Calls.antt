@@ -1,26 +1,19 @@
 -- The calls of the benches that the code makes may be made, and what their replies send is short.
 use Rattle.std.proofs.Common.{◌≡◌, ℕ, ◌+◌, ◌*◌, ◌≤◌, ◌<◌, min, Option, Some, None, List, [], ◌∷◌, ◌++◌, length, take, refl, sym, ◌∙◌, ap, subst, arith}
-use Rattle.std.specs.Prelude.{Result, Ok, Err, OnOk, IsTrue}
+use Rattle.std.specs.Prelude.{Result, Ok, Err, IfOk, OnOk, IsTrue}
 use Rattle.std.specs.List.{flat_map}
 use Rattle.std.proofs.lemmas.List.{length-append, length-take}
-use Rattle.bench.specs.Bench.{BenchState, JobState, Held, step_at, job_at, desk_at, served, stepped_by, answer_of, says, move_of, held_by, reply_by}
 use Rattle.bench.specs.Calls.{IsCall, IsOnShard}
 use Rattle.bench.specs.declared.call.Call.TheVariants.{Take, Step}
-use Rattle.bench.specs.declared.call.Reply.{Reply}
-use Rattle.bench.specs.declared.call.Reply.TheVariants as reply
 use Rattle.job_core.specs.Aims.{aimed}
-use Rattle.job_core.specs.Jobs.{is_taken, flow_by}
-use Rattle.job_core.specs.TableLaws.{TableLaws, IsEnded}
+use Rattle.job_core.specs.Jobs.{is_taken}
+use Rattle.job_core.specs.TableLaws.{IsEnded}
 use Rattle.job_core.specs.TableLaws.IsEnded.{silent, answered, asked, opened, to_server, to_client, refused, unknown_client, unknown_port, unknown_owner, turned_away}
 use Rattle.job_core.specs.declared.aim.Aim.{Aim}
 use Rattle.job_core.specs.declared.aim.Aim.TheVariants as aim
 use Rattle.job_core.specs.declared.moves.Answer.{Answer}
-use Rattle.job_core.specs.declared.moves.Next.{Next}
-use Rattle.job_core.specs.declared.moves.Next.TheVariants as next
 use Rattle.job_core.specs.declared.verdict.Verdict.{Verdict}
 use Rattle.job_core.specs.declared.verdict.Verdict.TheVariants as verdict
-use Rattle.replica_cell.specs.Walks.{walk_after}
-use Rattle.replica_cell.specs.declared.walk.Walk.{Walk}
 use Rattle.rule_table.specs.Setups.{SetupView}
 use Rattle.server_hand.specs.Opening.{piece_size}
 use Rattle.tcp_segment.specs.declared.segment.Segment.{Segment}
@@ -32,6 +25,10 @@ use Rattle.world_model.specs.World.{Shard}
 pub on_ok : {A B P Q : Type 0} (r : Result A B) → (P → Q) → OnOk r P → OnOk r Q
 on_ok (Ok a) f p = f p
 on_ok (Err e) f p = p
+
+pub if_ok : {A B : Type 0} {P Q : A → Type 0} (r : Result A B) → ((a : A) → P a → Q a) → IfOk r P → IfOk r Q
+if_ok (Ok a) f p = f a p
+if_ok (Err e) f p = p
 
 -- ---- a taken segment
 on_home : (setup : SetupView) (a : Aim) → IsTrue (is_taken a) → IsOnShard setup (home setup a) a
@@ -65,7 +62,7 @@ size_within : (mss : Option ℕ) → piece_size mss ≤ 1460
 size_within None = omega arith
 size_within (Some mss) = omega arith
 
-ended_total : (setup : SetupView) (seg : Segment) (held : List ℕ) (a : Aim) (answers : List Answer) (v : Verdict) (outs : List Segment) → IsEnded setup seg held a answers v outs → v ≡ verdict.Opened → total outs ≤ 14600
+pub ended_total : (setup : SetupView) (seg : Segment) (held : List ℕ) (a : Aim) (answers : List Answer) (v : Verdict) (outs : List Segment) → IsEnded setup seg held a answers v outs → v ≡ verdict.Opened → total outs ≤ 14600
 ended_total setup seg held a answers v outs (opened server port owner syn r later _ ack number it) is =
     let whole : total outs ≡ length (take (10 * piece_size seg.head.options.mss) held) = flat_total outs ∙ ap length it.whole in
     let cut : length (take (10 * piece_size seg.head.options.mss) held) ≡ min (10 * piece_size seg.head.options.mss) (length held) = length-take (10 * piece_size seg.head.options.mss) held in
@@ -81,32 +78,6 @@ ended_total setup seg held a answers v outs (unknown_client flow later _ e f) is
 ended_total setup seg held a answers v outs (unknown_port server port later _ e) is = absurd (cc)
 ended_total setup seg held a answers v outs (unknown_owner server port owner later _ e) is = absurd (cc)
 ended_total setup seg held a answers v outs (turned_away server port owner syn b later s e f g) is = absurd (cc)
-
-abbrev told : Reply → Verdict
-told (reply.Done v outs) = v
-told _ = verdict.StoreDown
-
-abbrev outs_of : Reply → List Segment
-outs_of (reply.Done v outs) = outs
-outs_of _ = []
-
-pub opened_total : TableLaws → (b : BenchState) (i : ℕ) (r : Reply) (outs : List Segment) → r ≡ (served b (Step i)).1 → r ≡ reply.Done verdict.Opened outs → total outs ≤ 14600
-opened_total laws b i r outs at is = with_job (job_at b.desks i) (sym at ∙ is)
-  where
-    with_next : (job : JobState) (a : Answer) (held : Held) (n : Next) → (move_of b.setup i job a held).next ≡ n → reply_by n ≡ reply.Done verdict.Opened outs → total outs ≤ 14600
-    with_next job a held (next.Ask q) here is = absurd (cc)
-    with_next job a held (next.End v sent) here is =
-        subst (λ (x : List Segment). total x ≤ 14600) (ap outs_of is)
-        (ended_total b.setup job.segment (held_by (flow_by job.aim job.answers) held) job.aim (job.answers ++ a ∷ []) v sent
-        (laws.ends b.setup i job.aim job.segment (job.answers ++ a ∷ []) (held_by (flow_by job.aim job.answers) held) v sent here) (ap told is))
-
-    with_answer : (job : JobState) (held : Held) (walk : Walk) (o : Option Answer) → (stepped_by b.setup i job held walk o).1 ≡ reply.Done verdict.Opened outs → total outs ≤ 14600
-    with_answer job held walk None is = absurd (cc)
-    with_answer job held walk (Some a) is = with_next job a held (move_of b.setup i job a held).next refl is
-
-    with_job : (o : Option JobState) → (step_at b i o).1 ≡ reply.Done verdict.Opened outs → total outs ≤ 14600
-    with_job None is = absurd (cc)
-    with_job (Some job) is = with_answer job (desk_at b.desks i).held (walk_after job.walk b.cells) (answer_of (says b.cells job)) is
 
 pub on_both : {A B P Q R : Type 0} (r : Result A B) → (P → Q → R) → OnOk r P → OnOk r Q → OnOk r R
 on_both (Ok a) f p q = f p q

@@ -59,7 +59,7 @@ no_client w flow none k client is its =
     absurd (none_passes (λ c. same_flow (flow_of w.setup c) flow) w.clients k client none is (subst (λ f. same_flow (flow_of w.setup client) f ≡ true) (sym its) (same_flow_itself (flow_of w.setup client))))
 
 -- nothing that is sent stands anywhere
-placed_nothing : (o : Option ClientSpec) (v : Verdict) (taken : Option Posted) (flow : Option Flow) → placed_for o v taken flow [] ≡ []
+pub placed_nothing : (o : Option ClientSpec) (v : Verdict) (taken : Option Posted) (flow : Option Flow) → placed_for o v taken flow [] ≡ []
 placed_nothing None v taken flow = refl
 placed_nothing (Some client) verdict.Opened taken flow = refl
 placed_nothing (Some client) _ taken flow = refl
@@ -176,8 +176,8 @@ module _ (w : World) (calls : Calls) (inv : Inv w calls) (live : AllLive w) (law
       one_good flow y.position y.acknowledged s
       (λ z is by at. (
         by,
-        passes_on w calls inv live laws flow r seg m y z (client_known flow ours) (decided_at w calls inv live laws g flow (key.Open flow) r ours.1 e)
-            sent same in_ (from_taken flow ours) clear (subst (λ (x : Segment). Rattle.translate.specs.Translation.GoesToServer w.setup seg (forged_of w.setup flow) r x) (sym is) goes) at before,
+        passes_on w calls inv live laws flow syn r seg m y z (client_known flow ours) (decided_at w calls inv live laws g flow (key.Open flow) r ours.1 e)
+            sent same in_ (from_taken flow ours) clear (subst (λ (x : Segment). Rattle.translate.specs.Translation.GoesToServer w.setup seg (forged_of w.setup flow) syn r x) (sym is) goes) at before,
       ))
       (opening_of w flow) refl (λ o. placed_for o verdict.Forwarded (Some y) (Some flow) (s ∷ [])) (λ c. refl) refl
   all_good a known v outs (refused flow syn why outs_ clear still d all) ours =
@@ -205,9 +205,9 @@ module _ (w : World) (calls : Calls) (inv : Inv w calls) (live : AllLive w) (law
       one_good flow y.position y.acknowledged s
       (λ z is by at. (
         by,
-        to_client_on w calls inv live laws flow server port r seg m y z (owner_flow w calls inv flow server port owns) owns
+        to_client_on w calls inv live laws flow server port syn r seg m y z (owner_flow w calls inv flow server port owns) owns
             (decided_at w calls inv live laws g flow (key.Open flow) r home f) sent same in_ (from_server server port ours) clear
-            (subst (λ (x : Segment). Rattle.translate.specs.Translation.GoesToClient w.setup seg (forged_of w.setup flow) r flow x) (sym is) goes) at before,
+            (subst (λ (x : Segment). Rattle.translate.specs.Translation.GoesToClient w.setup seg (forged_of w.setup flow) syn r flow x) (sym is) goes) at before,
       ))
       (opening_of w flow) refl (λ o. placed_for o verdict.Forwarded (Some y) (Some flow) (s ∷ [])) (λ c. refl) refl
   all_good a known v outs (unknown_server server port outs_ absent all) ours = back_none outs all

@@ -8,6 +8,8 @@ use Rattle.std.proofs.lemmas.List.Elements.{All-nil, All-cons}
 use Rattle.std.proofs.lemmas.List.Kept.{AllPairs-cons}
 use Rattle.std.proofs.lemmas.Option.{none-some, same_Some}
 use Rattle.sha2.specs.Sha256.{sha256, schedule, rounds, first_words, compress, hash_after, digest_bytes}
+use Rattle.bench.specs.Bench.{settle}
+use Rattle.bench.specs.Histories.{settle_moves}
 use Rattle.bench.specs.declared.call.Call.TheVariants.{Take, Step, Crash, Fail}
 use Rattle.bench.specs.declared.call.Call.{Call}
 use Rattle.client_hand.specs.SynAck.{syn_ack_segment}
@@ -288,23 +290,23 @@ may_be_listed = record {
 
 -- ---- computed
 can_be : all_may beginning first_events ≡ true
-unfolding sha256 first_words schedule rounds compress hash_after digest_bytes next_move aimed reading matched_in admits_in is_token_byte trim_ows syn_ack_segment choice_of server_syn_segment opening_ack piece_segment opening_segments to_server_segment to_client_segment reset_back turned_segment picked near_of is_utf8 chars encode
+unfolding sha256 first_words schedule rounds compress hash_after digest_bytes settle settle_moves next_move aimed reading matched_in admits_in is_token_byte trim_ows syn_ack_segment choice_of server_syn_segment opening_ack piece_segment opening_segments to_server_segment to_client_segment reset_back turned_segment picked near_of is_utf8 chars encode
 can_be = refl
 
 lives : AllLive ending
-unfolding sha256 first_words schedule rounds compress hash_after digest_bytes next_move aimed reading matched_in admits_in is_token_byte trim_ows syn_ack_segment choice_of server_syn_segment opening_ack piece_segment opening_segments to_server_segment to_client_segment reset_back turned_segment picked near_of is_utf8 chars encode
+unfolding sha256 first_words schedule rounds compress hash_after digest_bytes settle settle_moves next_move aimed reading matched_in admits_in is_token_byte trim_ows syn_ack_segment choice_of server_syn_segment opening_ack piece_segment opening_segments to_server_segment to_client_segment reset_back turned_segment picked near_of is_utf8 chars encode
 lives = (inl (refl {a = true}), (inl (refl {a = true}), (inl (refl {a = true}), (inl (refl {a = true}), tt))))
 
 client_is : end_at ending here ≡ Some client_done
-unfolding sha256 first_words schedule rounds compress hash_after digest_bytes next_move aimed reading matched_in admits_in is_token_byte trim_ows syn_ack_segment choice_of server_syn_segment opening_ack piece_segment opening_segments to_server_segment to_client_segment reset_back turned_segment picked near_of is_utf8 chars encode
+unfolding sha256 first_words schedule rounds compress hash_after digest_bytes settle settle_moves next_move aimed reading matched_in admits_in is_token_byte trim_ows syn_ack_segment choice_of server_syn_segment opening_ack piece_segment opening_segments to_server_segment to_client_segment reset_back turned_segment picked near_of is_utf8 chars encode
 client_is = refl
 
 server_is : end_at ending there ≡ Some server_done
-unfolding sha256 first_words schedule rounds compress hash_after digest_bytes next_move aimed reading matched_in admits_in is_token_byte trim_ows syn_ack_segment choice_of server_syn_segment opening_ack piece_segment opening_segments to_server_segment to_client_segment reset_back turned_segment picked near_of is_utf8 chars encode
+unfolding sha256 first_words schedule rounds compress hash_after digest_bytes settle settle_moves next_move aimed reading matched_in admits_in is_token_byte trim_ows syn_ack_segment choice_of server_syn_segment opening_ack piece_segment opening_segments to_server_segment to_client_segment reset_back turned_segment picked near_of is_utf8 chars encode
 server_is = refl
 
 history_is : calls_in 3 beginning first_events ≡ first_history
-unfolding sha256 first_words schedule rounds compress hash_after digest_bytes next_move aimed reading matched_in admits_in is_token_byte trim_ows syn_ack_segment choice_of server_syn_segment opening_ack piece_segment opening_segments to_server_segment to_client_segment reset_back turned_segment picked near_of is_utf8 chars encode
+unfolding sha256 first_words schedule rounds compress hash_after digest_bytes settle settle_moves next_move aimed reading matched_in admits_in is_token_byte trim_ows syn_ack_segment choice_of server_syn_segment opening_ack piece_segment opening_segments to_server_segment to_client_segment reset_back turned_segment picked near_of is_utf8 chars encode
 history_is = refl
 
 pub first_flow : FirstFlow

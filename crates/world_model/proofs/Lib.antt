@@ -12,6 +12,7 @@ pub mod Facts
 pub mod FirstFlow
 pub mod Following
 pub mod Frame
+pub mod Gets
 pub mod Growth
 pub mod Handling
 pub mod Invariant
@@ -40,6 +41,7 @@ pub mod Spared
 pub mod Stepping
 pub mod Swaps
 pub mod Taking
+pub mod Told
 pub mod Unique
 pub mod Writing
 pub mod WrongWorlds

@@ -2,35 +2,31 @@
 use Rattle.std.proofs.Common.{◌≡◌, ℕ, zero, suc, ◌<◌, Bool, true, false, Option, Some, None, List, ◌++◌, length, refl, sym, ◌∙◌, ap, subst, arith}
 use Rattle.std.specs.Prelude.{IsTrue, slice_get, slice_set, nat_lt, option_and_then}
 use Rattle.std.proofs.lemmas.Bool.{ltb-true, and_parts}
-use Rattle.std.proofs.lemmas.List.{append-nil}
 use Rattle.std.proofs.lemmas.Option.{same_Some}
-use Rattle.std.specs.List.{last_or}
-use Rattle.bench.specs.Bench.{BenchState, JobState, answer_of, desk_at, job_at, says, served, step_at}
-use Rattle.bench.specs.Bench.{stepped_by as bench_stepped_by}
-use Rattle.bench.specs.Histories.{flow_at, flow_of_job, flow_of_last, move_by, step_moves}
-use Rattle.bench.specs.declared.call.Call.TheVariants.{Take, Step}
+use Rattle.bench.specs.Bench.{served}
+use Rattle.bench.specs.Histories.{flow_at}
+use Rattle.bench.specs.declared.call.Call.{Call}
+use Rattle.bench.specs.declared.call.Call.TheVariants.{Step}
 use Rattle.bench.specs.declared.call.Reply.{Reply}
 use Rattle.bench.specs.declared.call.Reply.TheVariants as reply
 use Rattle.flow_id.specs.declared.key.Flow.{Flow}
 use Rattle.job_core.specs.Jobs.{is_taken}
 use Rattle.job_core.specs.declared.aim.Aim.{Aim}
 use Rattle.job_core.specs.declared.aim.Aim.TheVariants as aim
-use Rattle.job_core.specs.declared.moves.Answer.{Answer}
-use Rattle.job_core.specs.declared.verdict.Verdict.{Verdict}
-use Rattle.replica_cell.specs.Walks.{walk_after}
 use Rattle.rule_table.specs.Setups.{SetupView, IsSetup}
-use Rattle.tcp_segment.specs.declared.segment.Segment.{Segment}
 use Rattle.world_model.specs.After.{after, took, take_call}
 use Rattle.world_model.specs.Enabled.{home}
 use Rattle.world_model.specs.Events.{takes, calls}
 use Rattle.world_model.specs.Flows.{aim_of}
-use Rattle.world_model.specs.Outs.{handled_sends, index_taken, entry_taken, reply_sends}
+use Rattle.world_model.specs.Outs.{index_taken, reply_sends}
 use Rattle.world_model.specs.Placed.{sending, replied}
 use Rattle.world_model.specs.Runs.{after_all}
+use Rattle.world_model.specs.Told.{shard_sends}
 use Rattle.world_model.specs.Posted.{Posted}
 use Rattle.world_model.specs.Shape.{IsShard, HasShape}
 use Rattle.world_model.specs.declared.client.ClientSpec.{ClientSpec}
 use Rattle.world_model.specs.World.{World, Shard, ServerEnd, shard_at, bench_at, end_of_client}
+use Rattle.world_model.proofs.Calling.{own_place}
 use Rattle.world_model.proofs.Shapes.{the_shard}
 use Rattle.world_model.specs.Enabled.{is_out, may_handle}
 use Rattle.world_model.specs.Steps.{is_enabled, events_of, stepped, stepped_by, IsEvent, StepLaw}
@@ -42,48 +38,29 @@ use Rattle.world_model.specs.declared.event.Event.TheVariants as event
 use Rattle.std.specs.Prelude.{not, is_none}
 
 -- ---- what is sent is told by four parts of the world
-abbrev part : World → World
+abbrev pub part : World → World
 part w = sending w.setup w.clients w.servers w.sent
 
--- the flow of a job that a step ends is the one that it was known to be of before
-done_flow : (b : BenchState) (i : ℕ) (v : Verdict) (outs : List Segment) → (served b (Step i)).1 ≡ reply.Done v outs → option_and_then flow_of_job (job_at b.desks i) ≡ flow_at b (Step i)
-done_flow b i v outs is = by (job_at b.desks i) is
-  where
-    ended : (job : JobState) (o : Option Answer) → (bench_stepped_by b.setup i job (desk_at b.desks i).held (walk_after job.walk b.cells) o).1 ≡ reply.Done v outs
-        → flow_of_job job ≡ flow_of_last (last_or None (move_by i job (desk_at b.desks i).held o))
-    ended job None is = absurd (cc)
-    ended job (Some a) is = refl
-
-    by : (o : Option JobState) → (step_at b i o).1 ≡ reply.Done v outs → option_and_then flow_of_job o ≡ flow_of_last (last_or None (step_moves b i o))
-    by None is = absurd (cc)
-    by (Some job) is = ended job (answer_of (says b.cells job)) is
-
-replied_same : (w : World) (taken : List (Option ℕ)) (flow later : Option Flow) (i : ℕ) (r : Reply) → ((v : Verdict) (outs : List Segment) → r ≡ reply.Done v outs → flow ≡ later)
-    → replied (part w) flow (index_taken taken i) r ≡ reply_sends w taken later i r
-replied_same w taken flow later i (reply.Done v outs) same = ap (λ (f : Option Flow). handled_sends w f (entry_taken w taken i) v outs) (same v outs refl)
-replied_same w taken flow later i reply.Going same = refl
-replied_same w taken flow later i reply.Idle same = refl
-replied_same w taken flow later i reply.Noted same = refl
+replied_same : (w : World) (taken : List (Option ℕ)) (flow : Option Flow) (i : ℕ) (r : Reply) → replied (part w) flow (index_taken taken i) r ≡ reply_sends w taken flow i r
+replied_same w taken flow i (reply.Done v outs) = refl
+replied_same w taken flow i reply.Going = refl
+replied_same w taken flow i reply.Idle = refl
+replied_same w taken flow i reply.Noted = refl
 
 -- ---- a step
 abbrev pub with_both : World → List Shard → List Posted → World
 with_both w shards sent = record w { shards = shards; sent = sent }
 
--- what is sent with the reply to the step of this bench
-abbrev pub step_sends : World → Shard → ℕ → List Posted
-step_sends w s i = replied (part w) (option_and_then flow_of_job (job_at s.bench.desks i)) (index_taken s.taken i) (served s.bench (Step i)).1
-
 pub stepped_is : (w : World) (g i : ℕ) (shards : List Shard) (sent : List Posted) → HasShape w → g < w.setup.shards
     → ((s : Shard) → slice_get w.shards g ≡ Some s → shards ≡ slice_set w.shards g (record { bench = (served s.bench (Step i)).0; taken = s.taken }))
-    → ((s : Shard) → slice_get w.shards g ≡ Some s → sent ≡ w.sent ++ step_sends w s i)
+    → ((s : Shard) → slice_get w.shards g ≡ Some s → sent ≡ w.sent ++ shard_sends (part w) s (Step i) (index_taken s.taken i))
     → with_both w shards sent ≡ after w (calls g (Step i))
 stepped_is w g i shards sent shape below shards_are sent_is =
     let it = the_shard w g shape below in
     let s = it.0 in
     ap (λ (x : List Shard). with_both w x sent) (shards_are s it.1)
     ∙ ap (λ (y : List Posted). with_both w (slice_set w.shards g (record { bench = (served s.bench (Step i)).0; taken = s.taken })) y)
-    (sent_is s it.1 ∙ ap (λ zs. w.sent ++ zs)
-    (replied_same w s.taken (option_and_then flow_of_job (job_at s.bench.desks i)) (flow_at s.bench (Step i)) i (served s.bench (Step i)).1 (done_flow s.bench i)))
+    (sent_is s it.1 ∙ ap (λ zs. w.sent ++ zs) (replied_same w s.taken (flow_at s.bench (Step i)) i (served s.bench (Step i)).1))
     ∙ ap (λ (t : Shard). with_both w (slice_set w.shards g (record { bench = (served t.bench (Step i)).0; taken = t.taken })) (w.sent ++ reply_sends w t.taken (flow_at t.bench (Step i)) i (served t.bench (Step i)).1)) (sym it.2)
 
 -- ---- a segment is taken
@@ -100,17 +77,40 @@ home_below setup aim.NotOurs some = some
 pub home_within : (setup : SetupView) (a : Aim) → IsSetup setup → home setup a < setup.shards
 home_within setup a good = home_below setup a (counted setup.shards good.shards)
 
-pub took_is : (w : World) (i n : ℕ) (x : Posted) (shards : List Shard) → HasShape w → slice_get w.sent n ≡ Some x
-    → ((s : Shard) → slice_get w.shards (home w.setup (aim_of w.setup x.segment)) ≡ Some s
-    → shards ≡ slice_set w.shards (home w.setup (aim_of w.setup x.segment)) (record { bench = (served s.bench (Take i 0 (aim_of w.setup x.segment) x.segment)).0; taken = slice_set s.taken i (Some n) }))
-    → record w { shards = shards } ≡ after w (takes i 0 n)
-took_is w i n x shards shape is shards_are =
-    let g = home w.setup (aim_of w.setup x.segment) in
+-- the segment that the instance took last is this one
+index_own : (taken : List (Option ℕ)) (i n : ℕ) → i < length taken → index_taken (slice_set taken i (Some n)) i ≡ Some n
+index_own taken i n within = ap (option_and_then (λ (o : Option ℕ). o)) (own_place taken i (Some n) within)
+
+-- the call by which instance i takes it, and the shard with it
+abbrev pub call_of : World → ℕ → Posted → Call
+call_of w i x = take_call w i 0 x.segment
+
+abbrev pub home_of : World → Posted → ℕ
+home_of w x = home w.setup (aim_of w.setup x.segment)
+
+abbrev pub TakenShards : World → List Shard → List Shard → ℕ → ℕ → Posted → Type 0
+TakenShards w old shards i n x =
+    (s : Shard) → slice_get old (home_of w x) ≡ Some s
+    → shards ≡ slice_set old (home_of w x) (record { bench = (served s.bench (call_of w i x)).0; taken = slice_set s.taken i (Some n) })
+
+abbrev pub TakenSent : World → List Shard → List Posted → ℕ → ℕ → Posted → Type 0
+TakenSent w old sent i n x = (s : Shard) → slice_get old (home_of w x) ≡ Some s → sent ≡ w.sent ++ shard_sends (part w) s (call_of w i x) (Some n)
+
+pub took_is : (w : World) (i n : ℕ) (x : Posted) (shards : List Shard) (sent : List Posted) → HasShape w → i < w.setup.instances → slice_get w.sent n ≡ Some x
+    → TakenShards w w.shards shards i n x → TakenSent w w.shards sent i n x → with_both w shards sent ≡ after w (takes i 0 n)
+took_is w i n x shards sent shape within is shards_are sent_is =
+    let g = home_of w x in
+    let c = call_of w i x in
     let it = the_shard w g shape (home_within w.setup (aim_of w.setup x.segment) shape.good) in
-    let c = take_call w i 0 x.segment in
-    ap (λ (y : List Shard). with_both w y w.sent) (shards_are it.0 it.1)
-    ∙ ap (λ (t : Shard). with_both w (slice_set w.shards g (record { bench = (served t.bench c).0; taken = slice_set t.taken i (Some n) })) w.sent) (sym it.2)
-    ∙ ap (λ (y : List Posted). with_both w (slice_set w.shards g (record { bench = (served (bench_at w g) c).0; taken = slice_set (shard_at w g).taken i (Some n) })) y) (sym (append-nil w.sent))
+    let s = it.0 in
+    let own : index_taken (slice_set s.taken i (Some n)) i ≡ Some n = index_own s.taken i n (subst (λ (m : ℕ). i < m) (sym it.3.places) within) in
+    ap (λ (y : List Shard). with_both w y sent) (shards_are s it.1)
+    ∙ ap (λ (y : List Posted). with_both w (slice_set w.shards g (record { bench = (served s.bench c).0; taken = slice_set s.taken i (Some n) })) y)
+    (sent_is s it.1
+    ∙ ap (λ (o : Option ℕ). w.sent ++ replied (part w) (flow_at s.bench c) o (served s.bench c).1) (sym own)
+    ∙ ap (λ zs. w.sent ++ zs) (replied_same w (slice_set s.taken i (Some n)) (flow_at s.bench c) i (served s.bench c).1))
+    ∙ ap (λ (t : Shard). with_both w (slice_set w.shards g (record { bench = (served t.bench c).0; taken = slice_set t.taken i (Some n) }))
+    (w.sent ++ reply_sends w (slice_set t.taken i (Some n)) (flow_at t.bench c) i (served t.bench c).1)) (sym it.2)
     ∙ ap (λ (o : Option Posted). took w i 0 n o) (sym is)
 
 -- ---- what is known where it can happen
@@ -129,13 +129,6 @@ take_known w i n e x is = let it = take_can w i n e in subst (λ (y : Posted). I
 pub step_can : (w : World) (i g : ℕ) → is_enabled w (event.Step i g) ≡ true → (i < w.setup.instances) × (g < w.setup.shards)
 unfolding is_enabled
 step_can w i g e = let a = and_parts (nat_lt i w.setup.instances) (nat_lt g w.setup.shards) e in (ltb-true i w.setup.instances a.0, ltb-true g w.setup.shards a.1)
-
--- the two calls, where they can happen
-pub take_made : (w : World) (i n : ℕ) (shards : List Shard) → HasShape w → is_enabled w (event.Take i n) ≡ true
-    → ((x : Posted) (s : Shard) → slice_get w.sent n ≡ Some x → slice_get w.shards (home w.setup (aim_of w.setup x.segment)) ≡ Some s
-    → shards ≡ slice_set w.shards (home w.setup (aim_of w.setup x.segment)) (record { bench = (served s.bench (Take i 0 (aim_of w.setup x.segment) x.segment)).0; taken = slice_set s.taken i (Some n) }))
-    → record w { shards = shards } ≡ after w (takes i 0 n)
-take_made w i n shards shape e are = let it = take_can w i n e in took_is w i n it.1.0 shards shape it.1.1 (λ s here. are it.1.0 s it.1.1 here)
 
 -- ---- the same by the names of the code: `v` is the world, `w` what it is made of
 pub own_made : (w v : World) (shards : List Shard) → w ≡ v → HasShape v → shards ≡ w.shards → (g : ℕ) (s : Shard) → slice_get shards g ≡ Some s → IsShard w.setup g s
@@ -160,28 +153,31 @@ pub step_made : (w v : World) (clients : List ClientSpec) (old shards : List Sha
     → w ≡ v → HasShape v → is_enabled v (event.Step i g) ≡ true → clients ≡ w.clients → old ≡ w.shards
     → ((s : Shard) → slice_get old g ≡ Some s → shards ≡ slice_set old g (record { bench = (served s.bench (Step i)).0; taken = s.taken }))
     → ((s : Shard) → slice_get old g ≡ Some s → (servers : List ServerEnd)
-    → sent ≡ w.sent ++ replied (sending w.setup clients servers w.sent) (option_and_then flow_of_job (job_at s.bench.desks i)) (index_taken s.taken i) (served s.bench (Step i)).1)
+    → sent ≡ w.sent ++ shard_sends (sending w.setup clients servers w.sent) s (Step i) (index_taken s.taken i))
     → with_both w shards sent ≡ after v (calls g (Step i))
 step_made w v clients old shards sent g i is shape can clients_are old_is shards_are sent_is =
     let can_w = subst (λ (x : World). is_enabled x (event.Step i g) ≡ true) (sym is) can in
     stepped_is w g i shards sent (subst HasShape (sym is) shape) (step_can w i g can_w).1
     (subst (λ (xs : List Shard). (s : Shard) → slice_get xs g ≡ Some s → shards ≡ slice_set xs g (record { bench = (served s.bench (Step i)).0; taken = s.taken })) old_is shards_are)
-    (subst (λ (xs : List Shard). (s : Shard) → slice_get xs g ≡ Some s → sent ≡ w.sent ++ step_sends w s i) old_is
-    (subst (λ (c : List ClientSpec). (s : Shard) → slice_get old g ≡ Some s
-    → sent ≡ w.sent ++ replied (sending w.setup c w.servers w.sent) (option_and_then flow_of_job (job_at s.bench.desks i)) (index_taken s.taken i) (served s.bench (Step i)).1) clients_are
+    (subst (λ (xs : List Shard). (s : Shard) → slice_get xs g ≡ Some s → sent ≡ w.sent ++ shard_sends (part w) s (Step i) (index_taken s.taken i)) old_is
+    (subst (λ (c : List ClientSpec). (s : Shard) → slice_get old g ≡ Some s → sent ≡ w.sent ++ shard_sends (sending w.setup c w.servers w.sent) s (Step i) (index_taken s.taken i)) clients_are
     (λ s here. sent_is s here w.servers)))
     ∙ ap (λ (x : World). after x (calls g (Step i))) is
 
-pub take_done : (w v : World) (sent : List Posted) (old shards : List Shard) (i n : ℕ)
-    → w ≡ v → HasShape v → is_enabled v (event.Take i n) ≡ true → sent ≡ w.sent → old ≡ w.shards
-    → ((x : Posted) (s : Shard) → slice_get sent n ≡ Some x → slice_get old (home w.setup (aim_of w.setup x.segment)) ≡ Some s
-    → shards ≡ slice_set old (home w.setup (aim_of w.setup x.segment)) (record { bench = (served s.bench (Take i 0 (aim_of w.setup x.segment) x.segment)).0; taken = slice_set s.taken i (Some n) }))
-    → record w { shards = shards } ≡ after v (takes i 0 n)
-take_done w v sent old shards i n is shape can sent_is old_is are =
-    take_made w i n shards (subst HasShape (sym is) shape) (subst (λ (x : World). is_enabled x (event.Take i n) ≡ true) (sym is) can)
-    (λ x s sent_here here.
-    are x s (ap (λ (xs : List Posted). slice_get xs n) sent_is ∙ sent_here) (ap (λ (xs : List Shard). slice_get xs (home w.setup (aim_of w.setup x.segment))) old_is ∙ here)
-    ∙ ap (λ (xs : List Shard). slice_set xs (home w.setup (aim_of w.setup x.segment)) (record { bench = (served s.bench (Take i 0 (aim_of w.setup x.segment) x.segment)).0; taken = slice_set s.taken i (Some n) })) old_is)
+pub take_made : (w v : World) (clients : List ClientSpec) (old shards : List Shard) (sent : List Posted) (i n : ℕ)
+    → w ≡ v → HasShape v → is_enabled v (event.Take i n) ≡ true → clients ≡ w.clients → old ≡ w.shards
+    → ((x : Posted) → slice_get w.sent n ≡ Some x → TakenShards w old shards i n x)
+    → ((x : Posted) → slice_get w.sent n ≡ Some x → (s : Shard) → slice_get old (home_of w x) ≡ Some s → (servers : List ServerEnd)
+    → sent ≡ w.sent ++ shard_sends (sending w.setup clients servers w.sent) s (call_of w i x) (Some n))
+    → with_both w shards sent ≡ after v (takes i 0 n)
+take_made w v clients old shards sent i n is shape can clients_are old_is shards_are sent_is =
+    let it = take_can w i n (subst (λ (x : World). is_enabled x (event.Take i n) ≡ true) (sym is) can) in
+    let x : Posted = it.1.0 in
+    took_is w i n x shards sent (subst HasShape (sym is) shape) it.0 it.1.1
+    (subst (λ (xs : List Shard). TakenShards w xs shards i n x) old_is (shards_are x it.1.1))
+    (subst (λ (xs : List Shard). TakenSent w xs sent i n x) old_is
+    (subst (λ (c : List ClientSpec). (s : Shard) → slice_get old (home_of w x) ≡ Some s → sent ≡ w.sent ++ shard_sends (sending w.setup c w.servers w.sent) s (call_of w i x) (Some n)) clients_are
+    (λ s here. sent_is x it.1.1 s here w.servers)))
     ∙ ap (λ (x : World). after x (takes i 0 n)) is
 
 pub open_within : (w v : World) (k : ℕ) → w ≡ v → HasShape v → is_enabled v (event.Open k) ≡ true → k < length w.ends

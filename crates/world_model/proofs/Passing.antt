@@ -51,10 +51,10 @@ module _ (w : World) (calls : Calls) (inv : Inv w calls) (live : AllLive w) (law
   }
 
   -- what a server sent, passed on
-  module _ (flow : Flow) (server port : ℕ) (r : Record) (seg : Segment) (m : ℕ) (y z : Posted) (known : IsFlow w.setup w.clients flow) (owns : Owns w.setup w.clients calls flow server port)
+  module _ (flow : Flow) (server port : ℕ) (syn r : Record) (seg : Segment) (m : ℕ) (y z : Posted) (known : IsFlow w.setup w.clients flow) (owns : Owns w.setup w.clients calls flow server port)
       (d : DecidesOf w.setup calls flow (key.Open flow) r) (sent : slice_get w.sent m ≡ Some y) (same : y.segment ≡ seg) (in_ : IsIn y.by)
       (from : FromServer w.setup y.segment.source y.segment.target y.segment.head server port) (clear : is_syn_ack seg.head.flags ≡ false)
-      (g : GoesToClient w.setup seg (forged_of w.setup flow) r flow z.segment)
+      (g : GoesToClient w.setup seg (forged_of w.setup flow) syn r flow z.segment)
       (at : (k : ℕ) (client : ClientSpec) → IsClient w.clients k client → flow ≡ flow_of w.setup client → (z.position ≡ y.position) × (z.acknowledged ≡ y.acknowledged))
       (before : m < length w.sent) where
     sender : y.by ≡ end (Server server port)

@@ -54,18 +54,18 @@ as_num n m is = ap (λ (x : ℕ). num_of x) is
     num_of x = record { 0 = x }
 
 choice_known : (setup : SetupView) (r : Record) → is_choice r ≡ true → names_server setup r ≡ true → choice_server r < length setup.servers
-choice_known setup (Syn number mss window) kind names = absurd (cc)
+choice_known setup (Syn number mss window scale sack) kind names = absurd (cc)
 choice_known setup (Choice server rule) kind names = ltb-true server (length setup.servers) names
 choice_known setup (Port owner) kind names = absurd (cc)
-choice_known setup (Open server port number) kind names = absurd (cc)
+choice_known setup (Open server port number scale sack) kind names = absurd (cc)
 choice_known setup (Fin side number) kind names = absurd (cc)
 choice_known setup (Gone by) kind names = absurd (cc)
 
 open_known : (setup : SetupView) (r : Record) → is_open r ≡ true → names_server setup r ≡ true → open_server r < length setup.servers
-open_known setup (Syn number mss window) kind names = absurd (cc)
+open_known setup (Syn number mss window scale sack) kind names = absurd (cc)
 open_known setup (Choice server rule) kind names = absurd (cc)
 open_known setup (Port owner) kind names = absurd (cc)
-open_known setup (Open server port number) kind names = ltb-true server (length setup.servers) names
+open_known setup (Open server port number scale sack) kind names = ltb-true server (length setup.servers) names
 open_known setup (Fin side number) kind names = absurd (cc)
 open_known setup (Gone by) kind names = absurd (cc)
 
@@ -196,13 +196,13 @@ module _ (w : World) (calls : Calls) (inv : Inv w calls) (live : AllLive w) (law
       (inl s.ack))
 
   -- ---- what a client sent, passed on
-  pub passes_on : (flow : Flow) (r : Record) (seg : Segment) (m : ℕ) (y z : Posted) → IsFlow w.setup w.clients flow → DecidesOf w.setup calls flow (key.Open flow) r
+  pub passes_on : (flow : Flow) (syn r : Record) (seg : Segment) (m : ℕ) (y z : Posted) → IsFlow w.setup w.clients flow → DecidesOf w.setup calls flow (key.Open flow) r
       → slice_get w.sent m ≡ Some y → y.segment ≡ seg → IsIn y.by → FromClient w.setup y.segment.source y.segment.target y.segment.head flow → is_syn seg.head.flags ≡ false
-      → GoesToServer w.setup seg (forged_of w.setup flow) r z.segment
+      → GoesToServer w.setup seg (forged_of w.setup flow) syn r z.segment
       → ((k : ℕ) (client : ClientSpec) → IsClient w.clients k client → flow ≡ flow_of w.setup client → (z.position ≡ y.position) × (z.acknowledged ≡ y.acknowledged))
       → m < length w.sent
       → OutOk (Some flow) z
-  passes_on flow r seg m y z known d sent same in_ from clear g at before =
+  passes_on flow syn r seg m y z known d sent same in_ from clear g at before =
       to_opened flow r z known d (record { source = g.source; source_port = g.source_port; target = g.target; target_port = g.target_port })
       (λ n later k client is its t here number.
       let sender = of_client w calls inv m y sent in_ flow from k client is its in

@@ -8,6 +8,7 @@ use Rattle.job_core.specs.Jobs.{flow_by}
 use Rattle.job_core.specs.declared.aim.Aim.{Aim}
 use Rattle.job_core.specs.declared.verdict.Verdict.{Verdict}
 use Rattle.tcp_end.specs.Streams.{IsPrefix}
+use Rattle.tcp_segment.specs.Sending.{OutsView}
 use Rattle.tcp_segment.specs.declared.segment.Segment.{Segment}
 use Rattle.bench.specs.declared.call.Call.{Call}
 use Rattle.bench.specs.declared.call.Call.TheVariants.{Take, Step, Crash, Fail}
@@ -100,8 +101,8 @@ module _ (w : World) (calls : Calls) (inv : Inv w calls) (laws : (g : ℕ) → M
   last_is (x ∷ earlier) o m = last_is earlier (Some x) m
 
   -- what is sent at the end of a handling
-  done_sends : (v : Verdict) (outs : List Segment) → IsDone w.setup g (calls g) c v outs → (i : ℕ) → ((a : Aim) (s : Segment) (j : ℕ) → Handles (bench_at w g) c j a s → i ≡ j)
-      → AllSent now calls' (handled_sends w (flow_at (bench_at w g) c) (entry_taken w taken i) v outs)
+  done_sends : (v : Verdict) (outs : OutsView) → IsDone w.setup g (calls g) c v outs → (i : ℕ) → ((a : Aim) (s : Segment) (j : ℕ) → Handles (bench_at w g) c j a s → i ≡ j)
+      → AllSent now calls' (handled_sends w (flow_at (bench_at w g) c) (entry_taken w taken i) v outs.list)
   done_sends v outs done i caller =
       let last = done.last in
       let handles : Handles (bench_at w g) c last.instance last.job.aim last.job.segment =
@@ -110,21 +111,21 @@ module _ (w : World) (calls : Calls) (inv : Inv w calls) (laws : (g : ℕ) → M
       let entry : entry_taken w taken i ≡ Some t.entry =
       ap (λ n. entry_taken w taken n) (caller last.job.aim last.job.segment last.instance handles) ∙ ap (option_and_then (slice_get w.sent)) t.last ∙ t.sent in
       let held : Flow → List ℕ = held_of (desk_at (bench_after w.setup g (calls g)).desks last.instance).held in
-      let says : Says (log_at w.setup calls' g) w.setup last.job.segment held last.job.aim (flow_by last.job.aim last.job.answers) v outs =
-      subst (λ (h : List Call). Says (log_after w.setup g h) w.setup last.job.segment held last.job.aim (flow_by last.job.aim last.job.answers) v outs) (sym own) done.sent in
+      let says : Says (log_at w.setup calls' g) w.setup last.job.segment held last.job.aim (flow_by last.job.aim last.job.answers) v outs.list =
+      subst (λ (h : List Call). Says (log_after w.setup g h) w.setup last.job.segment held last.job.aim (flow_by last.job.aim last.job.answers) v outs.list) (sym own) done.sent in
       let prefix : (flow : Flow) (k : ℕ) (client : ClientSpec) → IsClient w.clients k client → flow ≡ flow_of w.setup client → IsPrefix (held flow) (written_by (end_of_client w k)) =
       λ flow k client is_client its.
       subst (λ f. IsPrefix (held f) (written_by (end_of_client w k))) (sym its)
       (subst (λ (b : BenchState). IsPrefix (held_of (desk_at b.desks last.instance).held (flow_of w.setup client)) (written_by (end_of_client w k))) (bench_is w calls inv laws table g below c may taken)
       ((inv.shard g below).held last.instance k client is_client)) in
       let good = all_good now calls' inv_now live laws table g below last.job.segment t.index t.entry t.sent t.is t.by (get_within w.sent t.index t.entry t.sent) held prefix
-      last.job.aim (flow_by last.job.aim last.job.answers) v outs says done.aimed in
+      last.job.aim (flow_by last.job.aim last.job.answers) v outs.list says done.aimed in
       let flow : flow_at (bench_at w g) c ≡ flow_by last.job.aim last.job.answers =
       ap (λ (b : BenchState). flow_at b c) (bench_is w calls inv laws table g below c may taken)
       ∙ ap (λ (ms : List JobMove). flow_of_last (last_or None ms)) done.moves
       ∙ ap flow_of_last (last_is done.earlier None last) in
-      subst (λ o. AllSent now calls' (handled_sends w (flow_at (bench_at w g) c) o v outs)) (sym entry)
-      (subst (λ f. AllSent now calls' (handled_sends w f (Some t.entry) v outs)) (sym flow)
+      subst (λ o. AllSent now calls' (handled_sends w (flow_at (bench_at w g) c) o v outs.list)) (sym entry)
+      (subst (λ f. AllSent now calls' (handled_sends w f (Some t.entry) v outs.list)) (sym flow)
       (all_sent (flow_by last.job.aim last.job.answers) _ good))
     where
       all_sent : (flow : Option Flow) (zs : List Posted) → AllByRecursion (λ z. (z.by ≡ balancer flow) × ((n : ℕ) → length w.sent ≤ n → IsSentBy w.setup w.clients now calls' n z (balancer flow))) zs → AllSent now calls' zs

@@ -89,22 +89,22 @@ abbrev pub syn_ack : Row
 syn_ack = row there 0 18 70000 1001 [] (mss_only 1460) 9
 
 abbrev pub asked : Row
-asked = row there 1 16 70001 1070 [] no_options 9
+asked = row there 1 16 70001 1070 [] no_options 0
 
 abbrev pub answers : Row
-answers = row there 1 24 70001 1070 answer no_options 9
+answers = row there 1 24 70001 1070 answer no_options 0
 
 abbrev pub answered : Row
-answered = row here 70 16 1070 1623089233 [] no_options 6
+answered = row here 70 16 1070 1623089233 [] no_options 0
 
 abbrev pub server_closes : Row
-server_closes = row there 201 17 70201 1070 [] no_options 12
+server_closes = row there 201 17 70201 1070 [] no_options 3
 
 abbrev pub client_closes : Row
-client_closes = row here 70 17 1070 1623089234 [] no_options 9
+client_closes = row here 70 17 1070 1623089234 [] no_options 3
 
 abbrev pub closed : Row
-closed = row there 202 16 70202 1071 [] no_options 9
+closed = row there 202 16 70202 1071 [] no_options 0
 
 -- ---- the run
 -- the end sends it, and the instance handles it as the record with this number; it is the segment with this index

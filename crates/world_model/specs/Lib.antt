@@ -25,5 +25,6 @@ pub mod Slots
 pub mod Steps
 pub mod Streams
 pub mod Summaries
+pub mod Told
 pub mod World
 pub mod WrongWorlds

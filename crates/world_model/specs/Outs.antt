@@ -44,7 +44,7 @@ entry_taken w taken i = option_and_then (slice_get w.sent) (option_and_then (λ 
 
 -- what the instance sends with this reply in a handling that is known to be of this flow
 abbrev pub reply_sends : World → List (Option ℕ) → Option Flow → ℕ → Reply → List Posted
-reply_sends w taken flow i (reply.Done v outs) = placed_for (option_and_then (opening_of w) flow) v (entry_taken w taken i) flow outs
+reply_sends w taken flow i (reply.Done v outs) = placed_for (option_and_then (opening_of w) flow) v (entry_taken w taken i) flow outs.list
 reply_sends w taken flow i _ = []
 
 -- what a call sends that was replied so, where the call's job is of this flow

@@ -66,7 +66,7 @@ sending setup clients servers sent = record { setup = setup; clients = clients; 
 
 -- what is sent with a reply by a job of this flow, the segment with this index having been taken last
 abbrev pub replied : World → Option Flow → Option ℕ → Reply → List Posted
-replied w flow index (reply.Done verdict outs) = handled_sends w flow (option_and_then (slice_get w.sent) index) verdict outs
+replied w flow index (reply.Done verdict outs) = handled_sends w flow (option_and_then (slice_get w.sent) index) verdict outs.list
 replied w flow index _ = []
 
 -- ---- the client of a flow

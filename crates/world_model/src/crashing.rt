@@ -1,4 +1,4 @@
-//! An instance crashes: at each shard, in their order, it loses its job and all the bytes that it holds.
+//! An instance crashes: at each shard, in their order, it loses its job, the bytes that it holds and the records that it keeps.
 ghost use Rattle.std.specs.Prelude.{◌≡◌, ◌<◌, ℕ, Some, length, slice_get};
 ghost use Rattle.bench.specs.declared.call.Call.TheVariants.{Crash as CrashCall};
 ghost use Rattle.world_model.specs.After.{after};

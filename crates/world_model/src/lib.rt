@@ -19,6 +19,7 @@ mod laws;
 mod laying;
 mod posted;
 mod posting;
+mod replying;
 mod rough_part;
 mod route;
 mod server_end;

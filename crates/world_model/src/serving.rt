@@ -1,36 +1,34 @@
-//! The calls of the shards' benches, and what the balancer sends with their replies.
-ghost use Rattle.std.specs.Prelude.{◌≡◌, ◌+◌, ◌≤◌, ◌<◌, ◌++◌, ℕ, List, Some, None, is_some, length, vec_capacity, slice_get, slice_set, find, option_and_then, option_map, ◌==◌, ◌&&◌, IsTrue, IfOk, OnOk, OnErr};
+//! The calls of the shards' benches, whose replies tell what the balancer sends then.
+ghost use Rattle.std.specs.Prelude.{◌≡◌, ◌≤◌, ◌<◌, ◌++◌, ℕ, List, Some, None, is_some, length, slice_get, slice_set, find, option_and_then, option_map, ◌==◌, ◌&&◌, IsTrue, IfOk, OnOk, OnErr};
 ghost use Rattle.bench.specs.Bench.{job_at, served};
 ghost use Rattle.bench.specs.Calls.{IsCall};
 ghost use Rattle.bench.specs.Histories.{flow_of_job};
 ghost use Rattle.bench.specs.declared.call.Call.TheVariants.{Take, Step};
-ghost use Rattle.bench.specs.declared.call.Reply.TheVariants.{Done};
-ghost use Rattle.job_core.specs.declared.verdict.Verdict.TheVariants.{Opened};
 ghost use Rattle.rule_table.specs.Setups.{SetupView};
-ghost use Rattle.tcp_segment.specs.declared.segment.Segment.{Segment};
 ghost use Rattle.world_model.specs.declared.client.ClientSpec.{ClientSpec};
 ghost use Rattle.world_model.specs.Enabled.{home};
 ghost use Rattle.world_model.specs.Flows.{aim_of, flow_made, flow_sent};
-ghost use Rattle.world_model.specs.Outs.{handled_sends, index_taken};
-ghost use Rattle.world_model.specs.Placed.{first_by, honest_client, is_of, replied, sending, total};
+ghost use Rattle.world_model.specs.Outs.{index_taken};
+ghost use Rattle.world_model.specs.Placed.{honest_client, is_of, sending};
 ghost use Rattle.job_core.specs.Jobs.{is_taken};
 ghost use Rattle.world_model.specs.Shape.{IsShard};
 ghost use Rattle.world_model.specs.Posted.{Posted as PostedView};
+ghost use Rattle.world_model.specs.Told.{IsTold, shard_sends};
 ghost use Rattle.world_model.specs.World.{end_of_server, is_end};
 ghost use Rattle.world_model.specs.World.{ServerEnd as ServerEndView};
 ghost use Rattle.world_model.specs.World.{Shard as ShardView};
 
 use crate::client_list::ClientList;
-use crate::laying::{Place, add_outs, place_by};
 use crate::posted::{Posted, Sender};
+use crate::replying::{add_reply, flow_before};
 use crate::server_ends::ServerEnds;
 use crate::shard::Shard;
 use bench::Reply;
 use flow_id::{Flow, port_shard, shard};
-use job_core::{Aim, Verdict, table_laws};
+use job_core::Aim;
 use rule_table::Setup;
 use std::alloc::AllocError;
-use tcp_segment::{Outs, Segment};
+use tcp_segment::Segment;
 
 /// The shard that handles segments with this aim.
 pub(crate) fn home(setup: &Setup, aim: &Aim) -> u8
@@ -130,68 +128,6 @@ pub(crate) fn entry(sent: &[Posted], index: u64) -> Option<&Posted>
     }
 }
 
-/// The segment with this index, if there is an index.
-fn entry_at(sent: &[Posted], index: Option<u64>) -> Option<&Posted>
-    ensures { option_map (λ x. x.now) result ≡ option_and_then (slice_get sent.now) index }
-{
-    match index {
-        Some(index) => entry(sent, index),
-        None => None,
-    }
-}
-
-/// Where the segments of a handling with this verdict begin to stand, which took the segment with this index.
-fn first_place(verdict: &Verdict, honest: bool, sent: &[Posted], index: Option<u64>) -> Place
-    ensures { result ≡ first_by verdict.now honest (option_and_then (slice_get sent.now) index) }
-{
-    match entry_at(sent, index) {
-        Some(x) => place_by(verdict, honest, x.position, x.acknowledged),
-        None => place_by(verdict, honest, None, None),
-    }
-}
-
-/// Adds what the balancer sends where it handled the segment with this index in a job of this flow with this verdict.
-fn add_handled(
-    setup: &Setup,
-    clients: &ClientList,
-    sent: &mut Vec<Posted>,
-    flow: Option<Flow>,
-    index: Option<u64>,
-    verdict: &Verdict,
-    outs: Outs,
-)
-    requires room { length sent.old.items + 11 ≤ vec_capacity sent.old }
-    requires short { verdict.now ≡ Opened → total outs ≤ 14600 }
-    ensures { (servers : List ServerEndView) → sent.new.items ≡ sent.old.items ++ handled_sends (sending setup.now clients.now servers sent.old.items) flow (option_and_then (slice_get sent.old.items) index) verdict.now outs }
-{
-    let honest = is_honest(setup, clients, &flow);
-    let first = first_place(verdict, honest, sent.as_slice(), index);
-    outs.known();
-    add_outs(sent, flow, first, outs.into_vec());
-}
-
-/// Adds what the balancer sends with this reply of a bench to a job of this flow, whose instance took the segment with this
-/// index last. There is room for it.
-pub(crate) fn add_reply(
-    setup: &Setup,
-    clients: &ClientList,
-    sent: &mut Vec<Posted>,
-    flow: Option<Flow>,
-    index: Option<u64>,
-    reply: Reply,
-)
-    requires room { length sent.old.items + 11 ≤ vec_capacity sent.old }
-    requires short { (outs : List Segment) → reply ≡ Done Opened outs → total outs ≤ 14600 }
-    ensures { (servers : List ServerEndView) → sent.new.items ≡ sent.old.items ++ replied (sending setup.now clients.now servers sent.old.items) flow index reply }
-{
-    match reply {
-        Reply::Done { verdict, outs } => {
-            add_handled(setup, clients, sent, flow, index, &verdict, outs)
-        }
-        _ => {}
-    }
-}
-
 /// The instance takes the segment with this index at the bench of a shard.
 pub(crate) fn take_at(
     shards: &mut [Shard],
@@ -200,10 +136,11 @@ pub(crate) fn take_at(
     index: u64,
     aim: Aim,
     segment: Segment,
-) -> Result<(), AllocError>
+) -> Result<Reply, AllocError>
     requires within { shard < length shards.old }
     requires may { (s : ShardView) → slice_get shards.old shard ≡ Some s → IsCall s.bench.setup s.bench.shard (Take instance 0 aim segment) × (instance < length s.taken) }
     ensures ok { OnOk result ((s : ShardView) → slice_get shards.old shard ≡ Some s → shards.new ≡ slice_set shards.old shard (record { bench = (served s.bench (Take instance 0 aim segment)).0; taken = slice_set s.taken instance (Some index) })) }
+    ensures reply { IfOk result (λ r. (s : ShardView) → slice_get shards.old shard ≡ Some s → IsTold s (Take instance 0 aim segment) r) }
     ensures err { OnErr result (shards.new ≡ shards.old) }
 {
     shards[shard as usize].take(instance, index, aim, segment)
@@ -214,36 +151,45 @@ pub(crate) fn step_at(shards: &mut [Shard], shard: u8, instance: u16) -> Result<
     requires within { shard < length shards.old }
     requires may { (s : ShardView) → slice_get shards.old shard ≡ Some s → IsCall s.bench.setup s.bench.shard (Step instance) }
     ensures ok { OnOk result ((s : ShardView) → slice_get shards.old shard ≡ Some s → shards.new ≡ slice_set shards.old shard (record { bench = (served s.bench (Step instance)).0; taken = s.taken })) }
-    ensures reply { IfOk result (λ r. (s : ShardView) → slice_get shards.old shard ≡ Some s → r ≡ (served s.bench (Step instance)).1) }
+    ensures reply { IfOk result (λ r. (s : ShardView) → slice_get shards.old shard ≡ Some s → IsTold s (Step instance) r) }
     ensures err { OnErr result (shards.new ≡ shards.old) }
 {
     shards[shard as usize].step(instance)
 }
 
-/// The instance takes the segment with this index at the bench of its shard.
+/// The instance takes the segment with this index at the bench of its shard, and what the balancer sends then is added. The
+/// room for it is made first.
 pub(crate) fn take_in(
     setup: &Setup,
+    clients: &ClientList,
     shards: &mut [Shard],
-    sent: &[Posted],
+    sent: &mut Vec<Posted>,
     instance: u16,
     index: u64,
 ) -> Result<(), AllocError>
     requires own { (g : ℕ) (s : ShardView) → slice_get shards.old g ≡ Some s → IsShard setup.now g s }
     requires count { length shards.old ≡ setup.now.shards }
     requires instance { instance < setup.now.instances }
-    requires taken { (x : PostedView) → slice_get sent.now index ≡ Some x → IsTrue (is_taken (aim_of setup.now x.segment)) }
-    ensures ok { OnOk result ((x : PostedView) (s : ShardView) → slice_get sent.now index ≡ Some x → slice_get shards.old (home setup.now (aim_of setup.now x.segment)) ≡ Some s
+    requires taken { (x : PostedView) → slice_get sent.old.items index ≡ Some x → IsTrue (is_taken (aim_of setup.now x.segment)) }
+    ensures ok_shards { OnOk result ((x : PostedView) (s : ShardView) → slice_get sent.old.items index ≡ Some x → slice_get shards.old (home setup.now (aim_of setup.now x.segment)) ≡ Some s
         → shards.new ≡ slice_set shards.old (home setup.now (aim_of setup.now x.segment)) (record { bench = (served s.bench (Take instance 0 (aim_of setup.now x.segment) x.segment)).0; taken = slice_set s.taken instance (Some index) })) }
-    ensures err { OnErr result (shards.new ≡ shards.old) }
+    ensures ok_sent { OnOk result ((x : PostedView) (s : ShardView) → slice_get sent.old.items index ≡ Some x → slice_get shards.old (home setup.now (aim_of setup.now x.segment)) ≡ Some s
+        → (servers : List ServerEndView) → sent.new.items ≡ sent.old.items ++ shard_sends (sending setup.now clients.now servers sent.old.items) s (Take instance 0 (aim_of setup.now x.segment) x.segment) (Some index)) }
+    ensures err_shards { OnErr result (shards.new ≡ shards.old) }
+    ensures err_sent { OnErr result (sent.new.items ≡ sent.old.items) }
 {
-    let Some(x) = entry(sent, index) else {
+    let Some(x) = entry(sent.as_slice(), index) else {
         return Ok(());
     };
     setup.known();
     let aim = aim_of(setup, &x.segment);
-    let shard = home(setup, &aim);
     let segment = x.segment.copy()?;
-    take_at(shards, shard, instance, index, aim, segment)
+    sent.reserve(11)?;
+    let shard = home(setup, &aim);
+    let flow = flow_before(&aim);
+    let reply = take_at(shards, shard, instance, index, aim, segment)?;
+    add_reply(setup, clients, sent, flow, Some(index), reply);
+    Ok(())
 }
 
 /// The instance's job makes a step at the bench of a shard, and what the balancer sends then is added. The room for it is
@@ -261,11 +207,10 @@ pub(crate) fn step_in(
     requires instance { instance < setup.now.instances }
     ensures ok_shards { OnOk result ((s : ShardView) → slice_get shards.old shard ≡ Some s → shards.new ≡ slice_set shards.old shard (record { bench = (served s.bench (Step instance)).0; taken = s.taken })) }
     ensures ok_sent { OnOk result ((s : ShardView) → slice_get shards.old shard ≡ Some s
-        → (servers : List ServerEndView) → sent.new.items ≡ sent.old.items ++ replied (sending setup.now clients.now servers sent.old.items) (option_and_then flow_of_job (job_at s.bench.desks instance)) (index_taken s.taken instance) (served s.bench (Step instance)).1) }
+        → (servers : List ServerEndView) → sent.new.items ≡ sent.old.items ++ shard_sends (sending setup.now clients.now servers sent.old.items) s (Step instance) (index_taken s.taken instance)) }
     ensures err_shards { OnErr result (shards.new ≡ shards.old) }
     ensures err_sent { OnErr result (sent.new.items ≡ sent.old.items) }
 {
-    table_laws();
     sent.reserve(11)?;
     let index = index_at(shards, shard, instance);
     let flow = flow_of_job(shards, shard, instance);

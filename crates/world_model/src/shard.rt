@@ -2,13 +2,16 @@ ghost use Rattle.std.specs.Prelude.{◌≡◌, ◌<◌, replicate, length, slice
 ghost use Rattle.bench.specs.Bench.{job_at, served};
 ghost use Rattle.bench.specs.Calls.{IsCall};
 ghost use Rattle.bench.specs.Histories.{flow_of_job};
+ghost use Rattle.bench.specs.declared.call.Call.{Call};
+ghost use Rattle.bench.specs.declared.call.Reply.{Reply as ReplyView};
 ghost use Rattle.bench.specs.declared.call.Call.TheVariants.{Take, Step, Crash, Fail};
 ghost use Rattle.world_model.specs.Outs.{index_taken};
+ghost use Rattle.world_model.specs.Told.{IsTold};
 ghost use Rattle.world_model.specs.World.{first_shard};
 
-use bench::{Bench, Reply};
+use bench::{Bench, Reply, move_laws};
 use flow_id::Flow;
-use job_core::Aim;
+use job_core::{Aim, table_laws};
 use rule_table::Setup;
 use std::alloc::{AllocError, Global};
 use std::marker::Model;
@@ -26,7 +29,7 @@ impl Model for Shard {
 
     ghost Value = { Shard };
 
-    ghost view = { λ s. record { bench = s.bench; taken = s.taken.items } };
+    ghost view = { λ s. record { bench = s.bench.state; taken = s.taken.items } };
 }
 
 /// So many places without an index. The one error is want of memory.
@@ -50,35 +53,48 @@ impl Shard {
         Ok(Shard { bench, taken })
     }
 
-    /// The instance takes the segment with this index. After an `Err` the shard is as before.
+    /// The instance takes the segment with this index, and has handled it where it needs to ask no replica. After an `Err` the
+    /// shard is as before.
     pub(crate) fn take(
         &mut self,
         instance: u16,
         index: u64,
         aim: Aim,
         segment: Segment,
-    ) -> Result<(), AllocError>
+    ) -> Result<Reply, AllocError>
         requires call { IsCall self.old.bench.setup self.old.bench.shard (Take instance 0 aim segment) }
         requires place { instance < length self.old.taken }
         ensures ok { OnOk result (self.new ≡ record { bench = (served self.old.bench (Take instance 0 aim segment)).0; taken = slice_set self.old.taken instance (Some index) }) }
+        ensures reply { IfOk result (IsTold self.old (Take instance 0 aim segment)) }
         ensures err { OnErr result (self.new ≡ self.old) }
     {
-        self.bench.take(instance, 0, aim, segment)?;
+        self.laws();
+        let reply = self.bench.take(instance, 0, aim, segment)?;
         self.taken[instance as usize] = Some(index);
-        Ok(())
+        Ok(reply)
     }
 
     /// The instance's job makes a step. After an `Err` the shard is as before.
     pub(crate) fn step(&mut self, instance: u16) -> Result<Reply, AllocError>
         requires call { IsCall self.old.bench.setup self.old.bench.shard (Step instance) }
         ensures ok { OnOk result (self.new ≡ record { bench = (served self.old.bench (Step instance)).0; taken = self.old.taken }) }
-        ensures reply { IfOk result (λ r. r ≡ (served self.old.bench (Step instance)).1) }
+        ensures reply { IfOk result (IsTold self.old (Step instance)) }
         ensures err { OnErr result (self.new ≡ self.old) }
     {
+        self.laws();
         self.bench.step(instance)
     }
 
-    /// The instance loses its job and all the bytes that it holds.
+    /// The reply to a call tells what is sent with it. It does nothing.
+    fn laws(&self)
+        ensures { (c : Call) (r : ReplyView) → IsCall self.now.bench.setup self.now.bench.shard c → r ≡ (served self.now.bench c).1 → IsTold self.now c r }
+    {
+        move_laws();
+        table_laws();
+        self.bench.known();
+    }
+
+    /// The instance loses its job, all the bytes that it holds and all the records that it keeps.
     pub(crate) fn crash(&mut self, instance: u16)
         requires { IsCall self.old.bench.setup self.old.bench.shard (Crash instance) }
         ensures { self.new ≡ record { bench = (served self.old.bench (Crash instance)).0; taken = self.old.taken } }

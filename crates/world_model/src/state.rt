@@ -220,7 +220,7 @@ impl State {
         Ok(())
     }
 
-    /// An instance takes a segment. After an `Err` the world is as before.
+    /// An instance takes a segment, and handles it where it needs to ask no replica. After an `Err` the world is as before.
     fn take(&mut self, instance: u16, index: u64) -> Result<(), AllocError>
         requires shape { HasShape self.old }
         requires can { is_enabled self.old (Take instance index) ≡ true }
@@ -229,8 +229,9 @@ impl State {
     {
         take_in(
             &self.setup,
+            &self.clients,
             &mut self.shards,
-            self.sent.as_slice(),
+            &mut self.sent,
             instance,
             index,
         )
@@ -253,7 +254,7 @@ impl State {
         )
     }
 
-    /// An instance loses its jobs and what it holds, at every shard. It takes no memory.
+    /// An instance loses its jobs, what it holds and what it keeps, at every shard. It takes no memory.
     fn crash(&mut self, instance: u16) -> Result<(), AllocError>
         requires shape { HasShape self.old }
         requires can { is_enabled self.old (Crash instance) ≡ true }

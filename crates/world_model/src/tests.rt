@@ -11,7 +11,10 @@ use tcp_segment::{ACK, Bytes, FIN, Head, Options, PSH, RST, SYN, Segment};
 
 mod barred;
 mod connections;
+mod crash_table;
 mod crashes;
+mod failure_table;
+mod faults;
 mod generated;
 mod memory;
 mod strangers;
@@ -277,12 +280,19 @@ fn accepted(alloc: Global, world: &mut World) -> Result<(), Fail> {
     handle(alloc, world, 1, 4, 9)
 }
 
-/// The server is sent the request, and answers with 200 bytes, which an instance passes on: segments 7 and 8.
+/// The server answers with 200 bytes, which the instance that opened the connection passes on as it takes them: segments 7
+/// and 8.
 fn answered(alloc: Global, world: &mut World) -> Result<(), Fail> {
     write(alloc, world, THERE, &ANSWER)?;
-    happen(alloc, world, &[Act::Send(THERE, 1460)])?;
-    handle(alloc, world, 1, 7, 9)?;
-    happen(alloc, world, &[Act::Deliver(HERE, 8)])
+    happen(
+        alloc,
+        world,
+        &[
+            Act::Send(THERE, 1460),
+            Act::Take(1, 7),
+            Act::Deliver(HERE, 8),
+        ],
+    )
 }
 
 /// The end sends. The instance that takes it crashes after so many steps, the other instance takes it again, and each end

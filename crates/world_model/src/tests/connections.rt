@@ -23,8 +23,8 @@ fn a_request_and_its_answer_arrive(rt: HostRuntime) -> Result<(), Fail> {
     Ok(())
 }
 
-/// The other instance takes a request that came long ago, loses the server's answer in a crash, and takes it again, while
-/// two replicas fail: segments 7 to 9.
+/// The other instance takes a request that came long ago, crashes, loses the server's answer in a second crash, and takes it
+/// again, while two replicas fail: segments 7 to 9.
 fn taken_over(alloc: Global, world: &mut World) -> Result<(), Fail> {
     handle(alloc, world, 0, 2, 20)?;
     write(alloc, world, THERE, b"yes")?;
@@ -32,6 +32,7 @@ fn taken_over(alloc: Global, world: &mut World) -> Result<(), Fail> {
         Act::Deliver(THERE, 7),
         Act::Close(THERE),
         Act::Send(THERE, 2),
+        Act::Crash(0),
         Act::Take(0, 8),
         Act::Crash(0),
         Act::Fail(0),
