@@ -1,0 +1,5 @@
+pub mod CarriedSums
+pub mod Changed
+pub mod Faultless
+pub mod Fitting
+pub mod Fronts
