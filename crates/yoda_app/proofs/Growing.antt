@@ -86,24 +86,24 @@ module _ (inputs : Inputs) (out0 report0 : List ℕ) where
   pub written_more : (out report more_out more_report : List ℕ) (benches next : Benches) (n count : ℕ) (frame : Frame) (left rest : List Frame) (h : Handled)
       → left ≡ frame ∷ rest → left ≡ drop n (capture_of inputs.trace).frames → IsWritten inputs out0 report0 out report benches n count left
       → IsMadeAfter inputs.setup h benches next (λ earlier. block_of inputs h.line earlier n frame)
-      → more_out ≡ out ++ frame_records frame h.outs → more_report ≡ report ++ line_text n h.line.instance h.line.verdict
-      → IsWritten inputs out0 report0 more_out more_report next (n + 1) (count + length h.outs) rest
+      → more_out ≡ out ++ frame_records frame h.outs.list → more_report ≡ report ++ line_text n h.line.instance h.line.verdict
+      → IsWritten inputs out0 report0 more_out more_report next (n + 1) (count + length h.outs.list) rest
   written_more out report more_out more_report benches next n count frame left rest h is all w makes added said =
       let frames = (capture_of inputs.trace).frames in
-      let named : List (ℕ × Segment) = map (λ out. (n, out)) h.outs in
+      let named : List (ℕ × Segment) = map (λ out. (n, out)) h.outs.list in
       let here : slice_get frames n ≡ Some frame = next_frame n frames rest frame (sym all ∙ is) in
       let number : 0 + length w.lines ≡ n = omega (arith, w.total) in
       record {
         lines = w.lines ++ h.line ∷ [];
         outs = w.outs ++ named;
         far = one_more inputs w.lines w.outs benches next n frame left rest h is w.far makes;
-        records = added ∙ ap (λ (x : List ℕ). x ++ frame_records frame h.outs) w.records
-            ∙ append_assoc out0 (sent_records frames w.outs) (frame_records frame h.outs)
-            ∙ ap (λ (x : List ℕ). out0 ++ x) (ap (λ (x : List ℕ). sent_records frames w.outs ++ x) (sym (sent_for frames frame n h.outs here))
+        records = added ∙ ap (λ (x : List ℕ). x ++ frame_records frame h.outs.list) w.records
+            ∙ append_assoc out0 (sent_records frames w.outs) (frame_records frame h.outs.list)
+            ∙ ap (λ (x : List ℕ). out0 ++ x) (ap (λ (x : List ℕ). sent_records frames w.outs ++ x) (sym (sent_for frames frame n h.outs.list here))
             ∙ sym (flat_map-append (sent_record frames) w.outs named));
         told = said ∙ ap (λ (x : List ℕ). x ++ line_text n h.line.instance h.line.verdict) w.told
             ∙ append_assoc report0 (report_lines 0 w.lines) (line_text n h.line.instance h.line.verdict)
             ∙ ap (λ (x : List ℕ). report0 ++ x) (sym (lines_more 0 w.lines h.line n number));
         total = length-append w.lines (h.line ∷ []) ∙ ap (λ (k : ℕ). k + 1) w.total;
-        sent = length-append w.outs named ∙ (let same = length_named n h.outs in let had = w.sent in omega arith);
+        sent = length-append w.outs named ∙ (let same = length_named n h.outs.list in let had = w.sent in omega arith);
       }

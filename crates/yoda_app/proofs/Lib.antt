@@ -1,12 +1,17 @@
+pub mod Fronts
 pub mod Growing
 pub mod Longer
 pub mod LongerTexts
+pub mod MadeOf
 pub mod Named
 pub mod Numbers
 pub mod Onward
 pub mod Outcomes
 pub mod Outputs
+pub mod Places
 pub mod Rising
 pub mod RunNamed
 pub mod ScriptRead
+pub mod Sending
+pub mod Splicing
 pub mod Stops

@@ -11,6 +11,7 @@ pub mod Refusals
 pub mod Reports
 pub mod RunCommand
 pub mod RunWords
+pub mod Spliced
 pub mod Texts
 pub mod Words
 pub mod Written

@@ -1,7 +1,9 @@
 -- The capture of what is sent: for each segment a record with the time of the record that it was sent for.
-use Rattle.std.specs.Prelude.{ℕ, List, [], ◌++◌, slice_get}
-use Rattle.std.specs.List.{flat_map}
+use Rattle.std.specs.Prelude.{ℕ, ◌+◌, List, [], ◌++◌, slice_get, slice_range, unwrap_or}
+use Rattle.std.specs.List.{AllByRecursion, flat_map}
 use Rattle.std.specs.Option.{option_map_or}
+use Rattle.inplace.specs.Packets.{HoldsSegment}
+use Rattle.pcap_file.specs.Ethernet.{network_of}
 use Rattle.pcap_file.specs.declared.capture.Frame.{Frame}
 use Rattle.pcap_file.specs.Written.{header_bytes, record_bytes}
 use Rattle.tcp_segment.specs.Written.{packet_bytes}
@@ -24,3 +26,11 @@ sent_records frames outs = flat_map (sent_record frames) outs
 -- those of what is sent for this frame
 abbrev pub frame_records : Frame → List Segment → List ℕ
 frame_records frame outs = flat_map (λ out. record_bytes frame.seconds frame.micros (packet_bytes out)) outs
+
+-- the packet that a frame of the trace holds, or no bytes
+abbrev pub packet_in : List ℕ → Frame → List ℕ
+packet_in trace frame = unwrap_or (network_of frame.link (slice_range trace frame.at (frame.at + frame.kept))) []
+
+-- where there is any of these segments, this is a packet that holds the segment that they answer
+abbrev pub AreMadeOf : List ℕ → List Segment → Type 0
+AreMadeOf packet outs = AllByRecursion (λ out. HoldsSegment packet) outs

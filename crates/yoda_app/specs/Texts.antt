@@ -8,6 +8,7 @@ use Rattle.plain_run.specs.Fold.{IsRun}
 use Rattle.tcp_segment.specs.declared.segment.Segment.{Segment}
 use Rattle.yoda_app.specs.Outs.{sent_records}
 use Rattle.yoda_app.specs.Reports.{report_lines}
+use Rattle.yoda_app.specs.Spliced.{text_of}
 use Rattle.yoda_app.specs.declared.texts.Texts.{Texts}
 
 -- the records and the lines of a run over these inputs, in which so many segments are sent, were added to the texts
@@ -15,7 +16,7 @@ pub record AddsRun (inputs : Inputs) (old new : Texts) (count : ℕ) : Type 0 wh
   pub lines : List Line
   pub outs : List (ℕ × Segment)
   pub run : IsRun inputs lines outs
-  pub out : new.out.items ≡ old.out.items ++ sent_records (capture_of inputs.trace).frames outs
+  pub out : text_of inputs.trace new.out ≡ text_of inputs.trace old.out ++ sent_records (capture_of inputs.trace).frames outs
   pub report : string_bytes new.report ≡ string_bytes old.report ++ report_lines 0 lines
   pub records : length lines ≡ inputs.records
   pub sent : length outs ≡ count

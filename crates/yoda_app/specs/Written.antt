@@ -13,6 +13,12 @@ pub record AddsPart (old new : Option (List ℕ)) (bytes : List ℕ) : Type 0 wh
   pub within : count ≤ length bytes
   pub is : new ≡ longer old (take count bytes)
 
+-- of a text a beginning was added to the first content, a buffer holds what comes then, and this is left
+pub record Sends (first now : Option (List ℕ)) (buffer left text : List ℕ) : Type 0 where
+  pub sent : List ℕ
+  pub is : now ≡ longer first sent
+  pub whole : sent ++ (buffer ++ left) ≡ text
+
 -- what a name holds once it was started and these bytes were added
 abbrev pub written : List ℕ → Option (List ℕ) → List ℕ → Option (List ℕ)
 written name content bytes = longer (started name content) bytes

@@ -33,6 +33,7 @@ mod report;
 mod run;
 mod run_texts;
 mod run_words;
+mod spliced;
 mod texts;
 mod words;
 mod writing;

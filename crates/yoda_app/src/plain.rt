@@ -8,11 +8,13 @@ ghost use Rattle.shelf.specs.Shelf.{SameContents, NoneFell, StaysSure};
 ghost use Rattle.yoda_app.specs.Commands.{AllWritten};
 ghost use Rattle.yoda_app.specs.Ends.{IsStop, IsEnd, StopsAmong};
 ghost use Rattle.yoda_app.specs.Plain.{plain_of};
+ghost use Rattle.yoda_app.specs.Spliced.{IsSpliced, text_of};
 
 use crate::ending::{Stop, stop_of};
-use crate::output::write_output;
+use crate::output::{write_output, write_spliced_output};
 use crate::texts::{Texts, run_texts};
 use crate::words::{PlainNames, input_names};
+use crate::writing::BUFFER_BYTES;
 use plain_run::{Inputs, load};
 use shelf::Shelf;
 use std::alloc::Global;
@@ -43,36 +45,42 @@ fn prepare<'a, H: Shelf>(
     alloc: Global,
     shelf: &mut H,
     names: &PlainNames<'a>,
-) -> Result<Texts, Stop<'a>>
+) -> Result<(Inputs, Texts), Stop<'a>>
     ensures accepted { OnOk result (AreTold (H.content shelf.old) (plain_of names.now).inputs
         → (plain_of names.now).refusal (held (H.content shelf.old)) ≡ None) }
-    ensures texts { IfOk result (λ t. AreTold (H.content shelf.old) (plain_of names.now).inputs
-        → (plain_of names.now).Gives (held (H.content shelf.old)) (t.out.items ∷ string_bytes t.report ∷ [])) }
+    ensures texts { IfOk result (λ r. AreTold (H.content shelf.old) (plain_of names.now).inputs
+        → (plain_of names.now).Gives (held (H.content shelf.old)) (text_of r.0.trace r.1.out ∷ string_bytes r.1.report ∷ [])) }
+    ensures spliced { IfOk result (λ r. IsSpliced r.0.trace r.1.out) }
     ensures stop { IfErr result (IsStop (plain_of names.now) (change H.content H.faults H.sure shelf.old shelf.new)) }
     ensures same { SameContents (H.content shelf.old) (H.content shelf.new) }
     ensures counts { NoneFell (H.faults shelf.old) (H.faults shelf.new) }
     ensures stays { StaysSure (H.sure shelf.old) (H.sure shelf.new) }
 {
     let inputs = load_inputs(alloc, shelf, names)?;
-    Ok(run_texts(alloc, &inputs)?)
+    let texts = run_texts(alloc, &inputs)?;
+    Ok((inputs, texts))
 }
 
 // Writes the texts in their order.
 fn write_texts<'a, H: Shelf>(
     shelf: &mut H,
     names: &PlainNames<'a>,
+    trace: &[u8],
     texts: &Texts,
+    buffer: &mut Vec<u8>,
 ) -> Result<(), Stop<'a>>
-    requires { names.now.out.now ≢ names.now.report.now }
-    ensures all { OnOk result (AllWritten (plain_of names.now).outputs (texts.now.out.items ∷ string_bytes texts.now.report ∷ [])
+    requires differ { names.now.out.now ≢ names.now.report.now }
+    requires spliced { IsSpliced trace.now texts.now.out }
+    requires empty { buffer.old.items ≡ [] }
+    ensures all { OnOk result (AllWritten (plain_of names.now).outputs (text_of trace.now texts.now.out ∷ string_bytes texts.now.report ∷ [])
         (H.content shelf.old) (H.content shelf.new)) }
     ensures stop { IfErr result (StopsAmong (change H.content H.faults H.sure shelf.old shelf.new) (plain_of names.now).outputs
-        (texts.now.out.items ∷ string_bytes texts.now.report ∷ [])) }
+        (text_of trace.now texts.now.out ∷ string_bytes texts.now.report ∷ [])) }
     ensures others { (n : List ℕ) → n ≢ names.now.out.now → n ≢ names.now.report.now → H.content shelf.new n ≡ H.content shelf.old n }
     ensures counts { NoneFell (H.faults shelf.old) (H.faults shelf.new) }
     ensures stays { StaysSure (H.sure shelf.old) (H.sure shelf.new) }
 {
-    write_output(shelf, names.out, &texts.out)?;
+    write_spliced_output(shelf, names.out, trace, &texts.out, buffer)?;
     write_output(shelf, names.report, texts.report.as_bytes())
 }
 
@@ -88,6 +96,7 @@ pub fn plain<'a, H: Shelf>(
     ensures counts { NoneFell (H.faults shelf.old) (H.faults shelf.new) }
     ensures stays { StaysSure (H.sure shelf.old) (H.sure shelf.new) }
 {
-    let texts = prepare(alloc, shelf, names)?;
-    write_texts(shelf, names, &texts)
+    let (inputs, texts) = prepare(alloc, shelf, names)?;
+    let mut buffer = Vec::with_capacity(alloc, BUFFER_BYTES)?;
+    write_texts(shelf, names, inputs.trace.as_slice(), &texts, &mut buffer)
 }

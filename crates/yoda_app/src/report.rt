@@ -4,6 +4,7 @@ ghost use Rattle.std.specs.String.{string_bytes};
 ghost use Rattle.report_text.specs.Reports.{line_text, last_text};
 
 use bench::input::Line;
+use job_core::Verdict;
 use report_text::VerdictText;
 use std::alloc::AllocError;
 use std::fmt::Write;
@@ -15,10 +16,15 @@ pub const LINE_BYTES: usize = 24;
 pub fn add_line(report: &mut String, number: u32, line: &Line) -> Result<(), AllocError>
     ensures { OnOk result (string_bytes report.new ≡ string_bytes report.old ++ line_text number line.now.instance line.now.verdict) }
 {
-    let verdict = VerdictText(line.verdict);
-    match line.instance {
-        Some(instance) => write!(report, "{number} {instance} {verdict}\n"),
-        None => write!(report, "{number} - {verdict}\n"),
+    match (line.instance, &line.verdict) {
+        // Most lines have this verdict, which needs not be copied for its text.
+        (Some(instance), Verdict::Forwarded) => write!(report, "{number} {instance} forwarded\n"),
+        (Some(instance), verdict) => write!(
+            report,
+            "{number} {instance} {}\n",
+            VerdictText(*verdict)
+        ),
+        (None, verdict) => write!(report, "{number} - {}\n", VerdictText(*verdict)),
     }
 }
 

@@ -2,9 +2,11 @@
 ghost use Rattle.std.specs.Prelude.{◌≡◌, ◌≤◌, ◌*◌, ◌++◌, [], ◌∷◌, length, map, IfOk, OnOk};
 ghost use Rattle.std.specs.List.{AllByRecursion};
 ghost use Rattle.std.specs.String.{string_bytes};
+ghost use Rattle.std.specs.Thread.{IsSync};
 ghost use Rattle.bench.specs.Inputs.{IsInputs};
 ghost use Rattle.journal_text.specs.Journals.{journal_text};
 ghost use Rattle.pcap_file.specs.Frames.{capture_of};
+ghost use Rattle.report_text.specs.Reports.{last_text};
 ghost use Rattle.run_threads.specs.Outs.{IsSent};
 ghost use Rattle.yoda_app.specs.Outs.{outs_text, sent_record, sent_records};
 ghost use Rattle.yoda_app.specs.Reports.{report_lines, report_text};
@@ -12,19 +14,19 @@ ghost use Rattle.yoda_app.specs.RunCommand.{AreRunTexts};
 
 use crate::outs_text::{add_packet, begin_outs};
 use crate::report::{LINE_BYTES, add_end, add_line};
-use bench::input::Line;
+use bench::input::{Line, Result1, Sent};
 use bench::{Call, forwarding_laws, job_laws, move_laws, store_laws};
 use journal_text::journal;
 use pcap_file::Frame;
 use plain_run::Inputs;
 use run_threads::{
-    OpenGate, RunResult, calls_are_named, frames_of, journal_determines, run_all,
+    OpenGate, RunResult, calls_are_named, frames_of, journal_determines, run_frames,
     verdicts_are_caused,
 };
 use seen_lock::Entry;
 use std::alloc::{AllocError, Global};
 use std::sync::Wait;
-use std::thread::Threads;
+use std::thread::{Threads, join};
 use tcp_segment::Segment;
 use world_model::headline;
 
@@ -62,16 +64,20 @@ fn add_sent(out: &mut Vec<u8>, frames: &[Frame], sent: &[(u32, Segment)]) -> Res
     Ok(())
 }
 
-// The capture of what is sent.
-fn sent_text(alloc: Global, inputs: &Inputs, sent: &[(u32, Segment)]) -> Result<Vec<u8>, AllocError>
-    requires inputs { IsInputs inputs.now }
-    requires sent { AllByRecursion (IsSent inputs.now.records) sent.now }
-    ensures { IfOk result (λ out. out.items ≡ outs_text (capture_of inputs.now.trace).frames sent.now) }
+// The capture of what is sent for the frames of the trace, which it uses up.
+fn sent_text(
+    alloc: Global,
+    inputs: &Inputs,
+    frames: &[Frame],
+    sent: Sent,
+) -> Result<Vec<u8>, AllocError>
+    requires frames { frames.now ≡ (capture_of inputs.now.trace).frames }
+    requires sent { AllByRecursion (IsSent (length frames.now)) sent }
+    ensures { IfOk result (λ out. out.items ≡ outs_text (capture_of inputs.now.trace).frames sent) }
 {
-    let frames = frames_of(alloc, inputs)?;
     // What is forwarded is about as long as what came in.
     let mut out = begin_outs(alloc, inputs.trace.as_slice().len())?;
-    add_sent(&mut out, &frames, sent)?;
+    add_sent(&mut out, frames, sent.as_slice())?;
     Ok(out)
 }
 
@@ -90,15 +96,15 @@ fn add_lines(report: &mut String, lines: &[Line]) -> Result<(), AllocError>
     Ok(())
 }
 
-// The report of records with these lines, for which this is sent.
-fn told_text(alloc: Global, lines: &[Line], sent: &[(u32, Segment)]) -> Result<String, AllocError>
+// The report of records with these lines, for which so many segments are sent.
+fn told_text(alloc: Global, lines: &[Line], sent: usize) -> Result<String, AllocError>
     requires lines { length lines.now ≤ 262144 }
-    requires sent { length sent.now ≤ 11 * 262144 }
-    ensures { IfOk result (λ report. string_bytes report ≡ report_text lines.now sent.now) }
+    requires sent { sent ≤ 11 * 262144 }
+    ensures { IfOk result (λ report. string_bytes report ≡ report_lines 0 lines.now ++ last_text (length lines.now) sent) }
 {
     let mut report = String::with_capacity(alloc, lines.len() * LINE_BYTES)?;
     add_lines(&mut report, lines)?;
-    add_end(&mut report, lines.len() as u32, sent.len() as u32)?;
+    add_end(&mut report, lines.len() as u32, sent as u32)?;
     Ok(report)
 }
 
@@ -121,25 +127,66 @@ fn told_calls(alloc: Global, histories: Vec<Vec<Entry<Call>>>) -> Result<Vec<u8>
     Ok(text)
 }
 
-// The texts of what a run left.
-fn texts_of(alloc: Global, inputs: &Inputs, ran: RunResult) -> Result<RunTexts, AllocError>
-    requires inputs { IsInputs inputs.now }
-    requires sent { AllByRecursion (IsSent inputs.now.records) ran.result.outs }
-    requires lines { length ran.result.lines ≡ inputs.now.records }
-    requires few { length ran.result.outs ≤ 11 * inputs.now.records }
+// The report and the journal, side by side.
+fn told_texts<R: Threads + Sync>(
+    rt: &R,
+    alloc: Global,
+    lines: &[Line],
+    sent: usize,
+    histories: Vec<Vec<Entry<Call>>>,
+) -> (Result<String, AllocError>, Result<Vec<u8>, AllocError>)
+    requires lines { length lines.now ≤ 262144 }
+    requires sent { sent ≤ 11 * 262144 }
+    ensures report { IfOk result.0 (λ report. string_bytes report ≡ report_lines 0 lines.now ++ last_text (length lines.now) sent) }
+    ensures journal { IfOk result.1 (λ text. text.items ≡ journal_text (map (λ h. h.items) histories.items)) }
+{
+    join(
+        rt,
+        || -> Result<String, AllocError>
+            requires { (length lines.now ≤ 262144) × (sent ≤ 11 * 262144) }
+            ensures { IfOk result (λ report. string_bytes report ≡ report_lines 0 lines.entry.now ++ last_text (length lines.entry.now) sent) }
+        { told_text(alloc, lines, sent) },
+        move || -> Result<Vec<u8>, AllocError>
+            ensures { IfOk result (λ text. text.items ≡ journal_text (map (λ h. h.items) histories.items)) }
+        { told_calls(alloc, histories) },
+    )
+}
+
+// The texts of what a run left, side by side.
+fn texts_of<R: Threads + Sync>(
+    rt: &R,
+    alloc: Global,
+    inputs: &Inputs,
+    frames: &[Frame],
+    ran: RunResult,
+) -> Result<RunTexts, AllocError>
+    requires frames { frames.now ≡ (capture_of inputs.now.trace).frames }
+    requires sent { AllByRecursion (IsSent (length frames.now)) ran.result.outs }
+    requires lines { length ran.result.lines ≤ 262144 }
+    requires few { length ran.result.outs ≤ 11 * 262144 }
     ensures out { IfOk result (λ t. t.out.items ≡ outs_text (capture_of inputs.now.trace).frames ran.result.outs) }
     ensures report { IfOk result (λ t. string_bytes t.report ≡ report_text ran.result.lines ran.result.outs) }
     ensures journal { IfOk result (λ t. t.journal.items ≡ journal_text (map (λ h. h.items) ran.histories.items)) }
 {
     let RunResult { result, histories } = ran;
-    let journal = told_calls(alloc, histories)?;
-    let sent = result.outs.as_slice();
-    let out = sent_text(alloc, inputs, sent)?;
-    let report = told_text(alloc, result.lines.as_slice(), sent)?;
+    let Result1 { lines, outs } = result;
+    let sent = outs.as_slice().len();
+    let (out, (report, journal)) = join(
+        rt,
+        move || -> Result<Vec<u8>, AllocError>
+            requires { (frames.now ≡ (capture_of inputs.now.trace).frames) × AllByRecursion (IsSent (length frames.now)) outs }
+            ensures { IfOk result (λ out. out.items ≡ outs_text (capture_of inputs.entry.now.trace).frames outs) }
+        { sent_text(alloc, inputs, frames, outs) },
+        move || -> (Result<String, AllocError>, Result<Vec<u8>, AllocError>)
+            requires { IsSync R.row × (length lines ≤ 262144) × (sent ≤ 11 * 262144) }
+            ensures { IfOk result.0 (λ report. string_bytes report ≡ report_lines 0 lines ++ last_text (length lines) sent)
+                × IfOk result.1 (λ text. text.items ≡ journal_text (map (λ h. h.items) histories.items)) }
+        { told_texts(rt, alloc, lines.as_slice(), sent, histories) },
+    );
     Ok(RunTexts {
-        out,
-        report,
-        journal,
+        out: out?,
+        report: report?,
+        journal: journal?,
     })
 }
 
@@ -161,7 +208,8 @@ pub fn threaded_texts<R: Threads + Wait + Sync>(
     forwarding_laws();
     headline();
     inputs.setup.known();
-    let ran = run_all(rt, alloc, inputs, &OpenGate)?;
-    let texts = texts_of(alloc, inputs, ran)?;
+    let frames = frames_of(alloc, inputs)?;
+    let ran = run_frames(rt, alloc, inputs, &frames, &OpenGate)?;
+    let texts = texts_of(rt, alloc, inputs, &frames, ran)?;
     Ok(texts)
 }

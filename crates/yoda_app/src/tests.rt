@@ -4,7 +4,9 @@ use shelf::MemoryShelf;
 use std::test::Fail;
 use tcp_segment::{ACK, Bytes, Head, Options, PSH, SYN as OPEN, Segment, write};
 
+mod faults;
 mod generated;
+mod hostile;
 mod refusals;
 mod runs;
 mod scripts;
@@ -215,7 +217,22 @@ fn left_of<R: Threads + Wait + Sync>(
     Ok(shelf.bytes(name).unwrap_or(&[]).to_vec(alloc)?)
 }
 
-/// The packet of a segment. One with SYN gives a maximum segment size of 1460 bytes.
+/// The options of a segment with these flags.
+fn options_of(who: Who, flags: u8) -> Options {
+    if flags & OPEN == 0 {
+        return Options::none();
+    }
+    Options {
+        mss: Some(1460),
+        scale: match who {
+            Who::Client => Some(7),
+            Who::Server => None,
+        },
+        ..Options::none()
+    }
+}
+
+/// The packet of a segment. One with SYN gives a maximum segment size of 1460 bytes, and the client's a scale of 7.
 fn packet_of(alloc: Global, sent: &Sent<'_>) -> Result<Vec<u8>, Fail> {
     let (who, flags, seq, ack, body) = *sent;
     if body.len() > 1460 {
@@ -233,10 +250,7 @@ fn packet_of(alloc: Global, sent: &Sent<'_>) -> Result<Vec<u8>, Fail> {
         flags,
         window: 64240,
         urgent: 0,
-        options: Options {
-            mss: if flags & OPEN == 0 { None } else { Some(1460) },
-            ..Options::none()
-        },
+        options: options_of(who, flags),
     };
     let segment = Segment {
         source,

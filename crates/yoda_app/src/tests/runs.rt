@@ -91,7 +91,7 @@ fn segments_are_handled_by_the_table(rt: HostRuntime) -> Result<(), Fail> {
                 (Who::Server, ACK, 70202, 1071, &[]),
             ],
             "0 1 answered\n1 1 waiting\n2 1 asked 0 17163\n3 1 opened\n4 1 forwarded\n5 1 forwarded\n6 1 forwarded\n7 1 forwarded\n8 1 forwarded\n9 1 forwarded\nrecords 10 outs 10\n",
-            "0 198.51.100.10:80 > 192.0.2.7:40000 AS 1623089032 1001 14600 0\n1 198.51.100.10:17163 > 10.0.0.1:8080 S 1000 0 64240 0\n2 198.51.100.10:17163 > 10.0.0.1:8080 A 1001 70001 64240 0\n3 198.51.100.10:17163 > 10.0.0.1:8080 AP 1001 70001 64240 69\n4 198.51.100.10:80 > 192.0.2.7:40000 A 1623089033 1070 64240 0\n5 198.51.100.10:80 > 192.0.2.7:40000 AP 1623089033 1070 64240 200\n6 198.51.100.10:17163 > 10.0.0.1:8080 A 1070 70201 64240 0\n7 198.51.100.10:80 > 192.0.2.7:40000 AF 1623089233 1070 64240 0\n8 198.51.100.10:17163 > 10.0.0.1:8080 AF 1070 70202 64240 0\n9 198.51.100.10:80 > 192.0.2.7:40000 A 1623089234 1071 64240 0\n",
+            "0 198.51.100.10:80 > 192.0.2.7:40000 AS 1623089032 1001 14600 0\n1 198.51.100.10:17163 > 10.0.0.1:8080 S 1000 0 64240 0\n2 198.51.100.10:17163 > 10.0.0.1:8080 A 1001 70001 64240 0\n3 198.51.100.10:17163 > 10.0.0.1:8080 AP 1001 70001 64240 69\n4 198.51.100.10:80 > 192.0.2.7:40000 A 1623089033 1070 501 0\n5 198.51.100.10:80 > 192.0.2.7:40000 AP 1623089033 1070 501 200\n6 198.51.100.10:17163 > 10.0.0.1:8080 A 1070 70201 65535 0\n7 198.51.100.10:80 > 192.0.2.7:40000 AF 1623089233 1070 501 0\n8 198.51.100.10:17163 > 10.0.0.1:8080 AF 1070 70202 65535 0\n9 198.51.100.10:80 > 192.0.2.7:40000 A 1623089234 1071 501 0\n",
         ),
         (
             &[
@@ -170,6 +170,18 @@ fn segments_are_handled_by_the_table(rt: HostRuntime) -> Result<(), Fail> {
         let (lines, outs) = outcome_of(&rt, alloc, &trace_of(alloc, segments)?, "")?;
         assert_eq!(rt; lines.as_slice(), report.as_bytes());
         assert_eq!(rt; outs.as_slice(), sent.as_bytes());
+    }
+    Ok(())
+}
+
+#[test]
+fn a_scale_is_answered_and_handed_on(rt: HostRuntime) -> Result<(), Fail> {
+    let alloc = rt.alloc();
+    for segments in [&[OPENING][..], &[OPENING, REQUEST]] {
+        let trace = trace_of(alloc, segments)?;
+        let sent = left_of(&rt, alloc, PLAIN, &trace, "out.pcap")?;
+        // The last that is sent is a SYN-ACK to the client, or the SYN to the server.
+        assert!(rt; sent.ends_with(&[2, 4, 5, 0xb4, 1, 3, 3, 7]));
     }
     Ok(())
 }

@@ -1,10 +1,10 @@
 use super::*;
 use tcp_segment::FIN;
 
-const RUN: &str = "run r.toml t.pcap s.txt out.pcap report.txt journal.txt";
+pub(super) const RUN: &str = "run r.toml t.pcap s.txt out.pcap report.txt journal.txt";
 
 /// A whole flow, from the client's SYN to the last acknowledgment.
-const WHOLE: [Sent<'static>; 10] = [
+pub(super) const WHOLE: [Sent<'static>; 10] = [
     OPENING,
     (Who::Client, ACK, 1001, FORGED + 1, &[]),
     REQUEST,
@@ -75,17 +75,13 @@ fn a_run_in_threads_leaves_its_journal(rt: HostRuntime) -> Result<(), Fail> {
                 ("take 1 3", 1),
                 ("step 1", 9),
                 ("take 1 4", 1),
-                ("step 1", 9),
                 ("take 1 5", 1),
-                ("step 1", 9),
                 ("take 1 6", 1),
-                ("step 1", 6),
                 ("take 1 7", 1),
-                ("step 1", 12),
+                ("step 1", 3),
                 ("take 1 8", 1),
-                ("step 1", 9),
+                ("step 1", 3),
                 ("take 1 9", 1),
-                ("step 1", 9),
             ],
         ),
         (

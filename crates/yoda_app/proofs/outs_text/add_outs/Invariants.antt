@@ -1,13 +1,17 @@
 use Rattle.std.proofs.Common.{◌≡◌, ◌++◌, length}
+use Rattle.std.specs.Prelude.{slice_range}
 use Rattle.std.specs.List.{AllByRecursion}
 use Rattle.plain_run.specs.Outs.{IsShort}
-use Rattle.yoda_app.specs.Outs.{frame_records}
+use Rattle.yoda_app.specs.Outs.{AreMadeOf, frame_records}
+use Rattle.yoda_app.specs.Spliced.{IsSpliced, text_of}
 use Rattle.yoda_app.proofs.outs_text.add_outs.Given as goal
 
 abbrev pub invariant-loop-rest : goal.invariant-loop-rest
 invariant-loop-rest l = record {
+  made : AreMadeOf (slice_range l.trace l.packet.start l.packet.end) l.rest;
   short : AllByRecursion IsShort l.rest;
-  records : l.out.items ++ frame_records l.frame l.rest ≡ l.fn.out.items ++ frame_records l.frame l.outs;
+  spliced : IsSpliced l.trace l.out;
+  records : text_of l.trace l.out ++ frame_records l.frame l.rest ≡ text_of l.trace l.fn.out ++ frame_records l.frame l.outs;
 }
 
 abbrev pub decreases-loop-rest : goal.decreases-loop-rest
