@@ -54,10 +54,10 @@ others=$(grep -v '^records' report.txt | cut -d' ' -f3 | grep -vc '^\(answered\|
 sed -n 's/^ *\([0-9]* [0-9]* asked [0-9]* [0-9]*\)$/\1/p' "$top/docs/CAPTURES.md" >shown.txt
 grep ' asked ' report.txt | diff shown.txt - || fail "docs/CAPTURES.md shows other servers"
 # The script that the page suggests: instance 3 dies, and instance 0 carries the first connection to its end.
-echo 'crash 3 at 6 after 2' >script.txt
+echo 'crash 3 at 22 after 1' >script.txt
 plain "$examples/rules.toml" "$examples/trace.pcap"
 : >script.txt
-grep -qx '6 3 crashed' report.txt && grep -qx '24 0 forwarded' report.txt || fail "the crash of docs/CAPTURES.md comes otherwise"
+grep -qx '22 3 crashed' report.txt && grep -qx '24 0 forwarded' report.txt || fail "the crash of docs/CAPTURES.md comes otherwise"
 [ "$(count crashed) $(count opened)" = "1 4" ] || fail "a connection does not outlive its instance"
 plain "$examples/takeover/rules.toml" troubles.trace
 [ "$(count refused)" = 1 ] || fail "the request without a rule is not refused"

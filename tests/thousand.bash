@@ -4,9 +4,9 @@ set -eu
 top=$(cd "$(dirname "$0")/.." && pwd)
 python3 -c 'import tomllib' 2>/dev/null || { echo "thousand: skipped, there is no python3 from 3.11 on"; exit 0; }
 . "$top/tests/program.bash"
-program "$top"
+[ -n "${YODA:-}" ] || program "$top"
 export PYTHONPATH=$top/tests PYTHONDONTWRITEBYTECODE=1
 out=$(mktemp -d)
 trap 'rm -rf "$out"' EXIT
 cd "$out"
-python3 "$top/tests/thousand.py" "$PROGRAM" "${1:-1000}"
+python3 "$top/tests/thousand.py" "${YODA:-$PROGRAM}" "${1:-1000}"

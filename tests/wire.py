@@ -7,6 +7,10 @@ FIN, SYN, RST, PSH, ACK = 1, 2, 4, 8, 16
 SECRET = bytes(range(32))
 SERVICE = (0xC633640A, 80)
 SERVER = (0x0A000001, 8080)
+# A whole request head, for the rules of examples/takeover.
+HEAD = b"GET /cart/1 HTTP/1.1\r\nHost: Shop.Example:80\r\nCookie: id=9; beta=1\r\n\r\n"
+# MSS 1460, SACK permitted, a timestamp, and a window scale of 7.
+OPTIONS = bytes.fromhex("020405b4 0402080a 00000001 00000000 01030307")
 
 
 def total(data):
