@@ -95,6 +95,12 @@ def syns(count, options):
         yield packet(client(n), SERVICE, 1000 + n, 0, SYN)
 
 
+def full_options(count, options):
+    """So many clients' SYNs, each with twenty options of two bytes, as many as a header has room for."""
+    for n in range(count):
+        yield packet(client(n), SERVICE, 1000 + n, 0, SYN, options=bytes((253, 2)) * 20)
+
+
 def equal_hashes(count, options):
     """SYNs of clients whose keys' hashes would agree, did they not take in the secret; equal_hashes.c finds them."""
     source = pathlib.Path(__file__).with_name("equal_hashes.c")
@@ -151,7 +157,7 @@ def lines(count):
 
 
 KINDS = {make.__name__: make for make in (
-    forwarded, equal_hashes, opened_in_order, client_resets, syns, cookie_rules, long_fields, one_byte_pieces, script_lines)}
+    forwarded, equal_hashes, opened_in_order, client_resets, syns, full_options, cookie_rules, long_fields, one_byte_pieces, script_lines)}
 # The conditions of the rules before the last, for the kinds whose rules have any.
 CONDITIONS = {
     "cookie_rules": [f'cookie = "group={n:04}"' for n in range(RULES)],

@@ -14,6 +14,7 @@ import tempfile
 RUNS = 5
 TOP = pathlib.Path(__file__).resolve().parent.parent
 PLAIN = ["plain", "rules.toml", "trace.pcap", "script.txt", "out.pcap", "report.txt"]
+RUN = ["run", "rules.toml", "trace.pcap", "script.txt", "out.pcap", "report.txt", "journal.txt"]
 
 
 class Cost:
@@ -76,3 +77,9 @@ def make(place, *words):
     subprocess.run(
         [sys.executable, TOP / "benchmarks/captures.py", *map(str, words)], cwd=place, env=environment, check=True)
     return place / "trace.pcap"
+
+
+def set_instances(place, instances):
+    """Gives the rules that stand there another number of instances."""
+    rules = place / "rules.toml"
+    rules.write_text(rules.read_text().replace("instances = 4\n", f"instances = {instances}\n"))

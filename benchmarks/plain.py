@@ -5,8 +5,8 @@ import measure
 
 REWRITE = "tcprewrite -i trace.pcap -o other.pcap --srcipmap=0.0.0.0/0:198.51.100.10 --portmap=80:8080 --fixcsum".split()
 CAPTURES = (
-    "data=196", "data=196 copies=1", "data=196 copies=3", "data=196 copies=8", "data=196 flows=10000", "data=0", "data=1400",
-    "data=1400 copies=8", "data=0 copies=1",
+    "data=196", "data=196 copies=1", "data=196 copies=3", "data=196 copies=8", "data=196 flows=10000 shards=64",
+    "data=196 flows=10000", "data=0", "data=0 copies=1", "data=0 copies=8", "data=1400", "data=1400 copies=1", "data=1400 copies=8",
 )
 MOST = 262_144
 

@@ -7,7 +7,6 @@ import time
 
 import measure
 
-RUN = ["run", "rules.toml", "trace.pcap", "script.txt", "out.pcap", "report.txt", "journal.txt"]
 MOST = 262_144
 CASES = ((4, 1), (4, 3), (4, 8), (16, 3))
 
@@ -29,11 +28,6 @@ class Taken:
         return statistics.median(self.times)
 
 
-def set_instances(place, instances):
-    rules = place / "rules.toml"
-    rules.write_text(rules.read_text().replace("instances = 4\n", f"instances = {instances}\n"))
-
-
 def main():
     yoda = measure.program()
     print("| Instances | Copies | plain, s | run, s | run / plain | memory of run / capture | of plain |")
@@ -42,12 +36,12 @@ def main():
         with measure.folder() as top:
             place = top / "made"
             capture = measure.make(place, "forwarded", MOST, "data=184", "shards=64", f"copies={copies}")
-            set_instances(place, instances)
+            measure.set_instances(place, instances)
             size = capture.stat().st_size
             plain, run = Taken(), Taken()
             for _ in range(measure.RUNS):
                 plain.add([yoda, *measure.PLAIN], place)
-                run.add([yoda, *RUN], place)
+                run.add([yoda, *measure.RUN], place)
             print(f"| {instances} | {copies} | {plain.seconds:.3f} | {run.seconds:.3f} | {run.seconds / plain.seconds:.2f}"
                   f" | {run.memory / size:.2f} | {plain.memory / size:.2f} |", flush=True)
 
