@@ -15,3 +15,12 @@ program() {
   echo "yoda was not built" >&2
   return 1
 }
+
+# For a check that runs the program `yoda` from Python: ends with status 0 where there is no python3 from 3.11 on, and else sets
+# YODA, building the program where none is named, and lets Python find the modules of tests/.
+from_python() {
+  local name=$1 top=$2
+  python3 -c 'import tomllib' 2>/dev/null || { echo "$name: skipped, there is no python3 from 3.11 on"; exit 0; }
+  [ -n "${YODA:-}" ] || { program "$top" && YODA=$PROGRAM; }
+  export PYTHONPATH=$top/tests PYTHONDONTWRITEBYTECODE=1
+}

@@ -3,11 +3,9 @@
 set -eu
 top=$(cd "$(dirname "$0")/.." && pwd)
 for tool in cc python3; do command -v $tool >/dev/null || { echo "refused: skipped, there is no $tool"; exit 0; }; done
-python3 -c 'import tomllib' 2>/dev/null || { echo "refused: skipped, there is no python3 from 3.11 on"; exit 0; }
 . "$top/tests/program.bash"
-[ -n "${YODA:-}" ] || program "$top"
-export PYTHONPATH=$top/tests PYTHONDONTWRITEBYTECODE=1
+from_python refused "$top"
 out=$(mktemp -d)
 trap 'rm -rf "$out"' EXIT
 cc -O2 -Wall -Wextra -shared -fPIC -o "$out/refuse.so" "$top/tests/refuse.c"
-python3 "$top/tests/refused.py" "${YODA:-$PROGRAM}" "$out/refuse.so" "$@"
+python3 "$top/tests/refused.py" "$YODA" "$out/refuse.so" "$@"
