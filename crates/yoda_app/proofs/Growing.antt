@@ -21,7 +21,7 @@ use Rattle.yoda_app.specs.Outs.{sent_record, sent_records, frame_records}
 use Rattle.yoda_app.specs.Reports.{report_lines}
 
 -- ---- the frames that are left
-next_frame : (n : ℕ) (frames rest : List Frame) (frame : Frame) → drop n frames ≡ frame ∷ rest → slice_get frames n ≡ Some frame
+pub next_frame : (n : ℕ) (frames rest : List Frame) (frame : Frame) → drop n frames ≡ frame ∷ rest → slice_get frames n ≡ Some frame
 next_frame zero [] rest frame is = absurd cc
 next_frame (suc n) [] rest frame is = absurd cc
 next_frame zero (f ∷ frames) rest frame is = cc

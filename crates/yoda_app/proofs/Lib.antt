@@ -1,5 +1,6 @@
 pub mod Fronts
 pub mod Growing
+pub mod InParts
 pub mod Longer
 pub mod LongerTexts
 pub mod MadeOf
@@ -13,5 +14,6 @@ pub mod Rising
 pub mod RunNamed
 pub mod ScriptRead
 pub mod Sending
+pub mod SentFrom
 pub mod Splicing
 pub mod Stops

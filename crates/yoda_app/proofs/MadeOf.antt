@@ -27,7 +27,7 @@ use Rattle.tcp_segment.specs.declared.segment.TcpFault.{TcpFault}
 use Rattle.tcp_segment.specs.Segments as tcp
 use Rattle.yoda_app.specs.Outs.{AreMadeOf, packet_in}
 
-all_made : (packet : List ℕ) (outs : List Segment) → HoldsSegment packet → AreMadeOf packet outs
+pub all_made : (packet : List ℕ) (outs : List Segment) → HoldsSegment packet → AreMadeOf packet outs
 all_made packet [] holds = tt
 all_made packet (out ∷ outs) holds = (holds, all_made packet outs holds)
 
@@ -60,7 +60,7 @@ abbrev whole_or_cut : Bool → List ℕ → Frame → Result Segment Verdict
 whole_or_cut cut trace frame =
     if cut then Err SnapCut else network_incoming (network_of frame.link (slice_range trace frame.at (frame.at + frame.kept)))
 
-frame_holds : (cut : Bool) (trace : List ℕ) (frame : Frame) (s : Segment) → nat_lt frame.kept frame.original ≡ cut → incoming trace frame ≡ Ok s → HoldsSegment (packet_in trace frame)
+pub frame_holds : (cut : Bool) (trace : List ℕ) (frame : Frame) (s : Segment) → nat_lt frame.kept frame.original ≡ cut → incoming trace frame ≡ Ok s → HoldsSegment (packet_in trace frame)
 frame_holds true trace frame s cut is =
     let no : Err SnapCut ≡ Ok s = subst (λ (b : Bool). whole_or_cut b trace frame ≡ Ok s) cut is in
     absurd cc

@@ -5,7 +5,7 @@ use Rattle.std.specs.Prelude.{Option, None, Some, Result, Ok, Err, OnErr}
 use Rattle.yoda_app.specs.Written.{longer, AddsPart, Sends}
 use Rattle.yoda_app.proofs.Longer.{longer-longer, adds_front, adds_back}
 
-longer-nil : (o : Option (List ℕ)) → o ≡ longer o []
+pub longer-nil : (o : Option (List ℕ)) → o ≡ longer o []
 longer-nil None = refl
 longer-nil (Some c) = ap Some (sym (append-nil c))
 

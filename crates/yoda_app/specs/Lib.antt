@@ -6,6 +6,7 @@ pub mod Dumps
 pub mod Ends
 pub mod LongerTexts
 pub mod Outs
+pub mod Parts
 pub mod Plain
 pub mod Refusals
 pub mod Reports

@@ -1,10 +1,11 @@
 -- The capture of what is sent: for each segment a record with the time of the record that it was sent for.
-use Rattle.std.specs.Prelude.{ℕ, ◌+◌, List, [], ◌++◌, slice_get, slice_range, unwrap_or}
+use Rattle.std.specs.Prelude.{ℕ, ◌+◌, List, [], ◌++◌, length, slice_get, slice_range, unwrap_or, IfSome}
 use Rattle.std.specs.List.{AllByRecursion, flat_map}
 use Rattle.std.specs.Option.{option_map_or}
 use Rattle.inplace.specs.Packets.{HoldsSegment}
 use Rattle.pcap_file.specs.Ethernet.{network_of}
 use Rattle.pcap_file.specs.declared.capture.Frame.{Frame}
+use Rattle.run_threads.specs.Outs.{IsSent}
 use Rattle.pcap_file.specs.Written.{header_bytes, record_bytes}
 use Rattle.tcp_segment.specs.Written.{packet_bytes}
 use Rattle.tcp_segment.specs.declared.segment.Segment.{Segment}
@@ -34,3 +35,8 @@ packet_in trace frame = unwrap_or (network_of frame.link (slice_range trace fram
 -- where there is any of these segments, this is a packet that holds the segment that they answer
 abbrev pub AreMadeOf : List ℕ → List Segment → Type 0
 AreMadeOf packet outs = AllByRecursion (λ out. HoldsSegment packet) outs
+
+-- the segment was sent for one of these frames of the trace, and fits a packet; what the frame holds is a packet with the segment
+-- that it answers
+abbrev pub IsSentFrom : List ℕ → List Frame → ℕ × Segment → Type 0
+IsSentFrom trace frames out = IsSent (length frames) out × IfSome (slice_get frames out.0) (λ frame. HoldsSegment (packet_in trace frame))

@@ -13,7 +13,7 @@ use inplace::{Place, write_front};
 use pcap_file::{Frame, network, write_header, write_record_head};
 use plain_run::Inputs;
 use std::alloc::{AllocError, Global};
-use tcp_segment::{Segment, packet_len, write};
+use tcp_segment::{Segment, packet_len};
 
 /// A capture without a record, with room for so many bytes. The one error is want of memory.
 pub fn begin_outs(alloc: Global, room: usize) -> Result<Vec<u8>, AllocError>
@@ -22,16 +22,6 @@ pub fn begin_outs(alloc: Global, room: usize) -> Result<Vec<u8>, AllocError>
     let mut out = Vec::with_capacity(alloc, room)?;
     write_header(&mut out)?;
     Ok(out)
-}
-
-/// Adds a record of the segment's packet, which has the time of this frame. The one error is want of memory.
-#[tactic(auto, using(tcp_segment::proofs::Again::packet_lengths))]
-pub fn add_packet(out: &mut Vec<u8>, frame: &Frame, segment: &Segment) -> Result<(), AllocError>
-    requires { IsShort segment.now }
-    ensures { OnOk result (out.new.items ≡ out.old.items ++ record_bytes frame.now.seconds frame.now.micros (packet_bytes segment.now)) }
-{
-    write_record_head(frame.seconds, frame.micros, packet_len(segment) as u32, out)?;
-    write(segment, out)
 }
 
 /// A capture without a record, with room for the records and the data of a run over this trace. The one error is want of
@@ -62,10 +52,10 @@ pub fn packet_at(trace: &[u8], frame: &Frame) -> Place
     }
 }
 
-// Adds a record of the segment's packet, which has the time of this frame, where the segment was made of the packet at this
-// place. The one error is want of memory.
+/// Adds a record of the segment's packet, which has the time of this frame, where the segment was made of the packet at this
+/// place. The one error is want of memory.
 #[tactic(auto, using(tcp_segment::proofs::Again::packet_lengths))]
-fn add_packet_from(
+pub fn add_packet_from(
     out: &mut Spliced,
     trace: &[u8],
     frame: &Frame,

@@ -1,5 +1,5 @@
 // The three texts of a run in threads.
-ghost use Rattle.std.specs.Prelude.{◌≡◌, ◌≤◌, ◌*◌, ◌++◌, [], ◌∷◌, length, map, IfOk, OnOk};
+ghost use Rattle.std.specs.Prelude.{◌≡◌, ◌≤◌, ◌+◌, ◌*◌, ◌++◌, All, [], ◌∷◌, length, map, IfOk, OnOk};
 ghost use Rattle.std.specs.List.{AllByRecursion};
 ghost use Rattle.std.specs.String.{string_bytes};
 ghost use Rattle.std.specs.Thread.{IsSync};
@@ -7,14 +7,15 @@ ghost use Rattle.bench.specs.Inputs.{IsInputs};
 ghost use Rattle.journal_text.specs.Journals.{journal_text};
 ghost use Rattle.pcap_file.specs.Frames.{capture_of};
 ghost use Rattle.report_text.specs.Reports.{last_text};
-ghost use Rattle.run_threads.specs.Outs.{IsSent};
-ghost use Rattle.yoda_app.specs.Outs.{outs_text, sent_record, sent_records};
+ghost use Rattle.yoda_app.specs.Outs.{IsSentFrom, outs_text};
+ghost use Rattle.yoda_app.specs.Parts.{AreSpliced, parts_text};
 ghost use Rattle.yoda_app.specs.Reports.{report_lines, report_text};
 ghost use Rattle.yoda_app.specs.RunCommand.{AreRunTexts};
 
-use crate::outs_text::{add_packet, begin_outs};
 use crate::report::{LINE_BYTES, add_end, add_line};
-use bench::input::{Line, Result1, Sent};
+use crate::sent_parts::sent_parts;
+use crate::spliced::Spliced;
+use bench::input::Line;
 use bench::{Call, forwarding_laws, job_laws, move_laws, store_laws};
 use journal_text::journal;
 use pcap_file::Frame;
@@ -23,6 +24,7 @@ use run_threads::{
     OpenGate, RunResult, calls_are_named, frames_of, journal_determines, run_frames,
     verdicts_are_caused,
 };
+use script_text::assignments;
 use seen_lock::Entry;
 use std::alloc::{AllocError, Global};
 use std::sync::Wait;
@@ -33,53 +35,14 @@ use world_model::headline;
 /// The three texts that `run` writes.
 #[derive(Drop)]
 pub struct RunTexts {
-    /// The capture of what is sent.
-    pub out: Vec<u8>,
+    /// The capture of what is sent, in parts, of which slices stand in the trace.
+    pub out: Vec<Spliced>,
     pub report: String,
     pub journal: Vec<u8>,
 }
 
 // Room for a line of a journal; most are shorter.
 const CALL_BYTES: usize = 9;
-
-// Adds the record of a segment, with the time of its frame among these.
-fn add_one(out: &mut Vec<u8>, frames: &[Frame], sent: &(u32, Segment)) -> Result<(), AllocError>
-    requires { IsSent (length frames.now) sent.now }
-    ensures { OnOk result (out.new.items ≡ out.old.items ++ sent_record frames.now sent.now) }
-{
-    let (number, segment) = sent;
-    add_packet(out, &frames[*number as usize], segment)
-}
-
-// Adds a record for each of the segments that are sent for these frames, in their order.
-fn add_sent(out: &mut Vec<u8>, frames: &[Frame], sent: &[(u32, Segment)]) -> Result<(), AllocError>
-    requires { AllByRecursion (IsSent (length frames.now)) sent.now }
-    ensures { OnOk result (out.new.items ≡ out.old.items ++ sent_records frames.now sent.now) }
-{
-    let mut rest = sent;
-    while let [first, after @ ..] = rest {
-        add_one(out, frames, first)?;
-        rest = after;
-    }
-    Ok(())
-}
-
-// The capture of what is sent for the frames of the trace, which it uses up.
-fn sent_text(
-    alloc: Global,
-    inputs: &Inputs,
-    frames: &[Frame],
-    sent: Sent,
-) -> Result<Vec<u8>, AllocError>
-    requires frames { frames.now ≡ (capture_of inputs.now.trace).frames }
-    requires sent { AllByRecursion (IsSent (length frames.now)) sent }
-    ensures { IfOk result (λ out. out.items ≡ outs_text (capture_of inputs.now.trace).frames sent) }
-{
-    // What is forwarded is about as long as what came in.
-    let mut out = begin_outs(alloc, inputs.trace.as_slice().len())?;
-    add_sent(&mut out, frames, sent.as_slice())?;
-    Ok(out)
-}
 
 // Adds the lines of a report, from the first record on.
 fn add_lines(report: &mut String, lines: &[Line]) -> Result<(), AllocError>
@@ -117,13 +80,13 @@ fn call_count(histories: &[Vec<Entry<Call>>]) -> usize {
     count
 }
 
-// The journal of these histories, which it uses up.
-fn told_calls(alloc: Global, histories: Vec<Vec<Entry<Call>>>) -> Result<Vec<u8>, AllocError>
-    ensures { IfOk result (λ text. text.items ≡ journal_text (map (λ h. h.items) histories.items)) }
+// The journal of these histories.
+fn told_calls(alloc: Global, histories: &[Vec<Entry<Call>>]) -> Result<Vec<u8>, AllocError>
+    ensures { IfOk result (λ text. text.items ≡ journal_text (map (λ h. h.items) histories.now)) }
 {
-    let room = call_count(&histories).saturating_mul(CALL_BYTES);
+    let room = call_count(histories).saturating_mul(CALL_BYTES);
     let mut text = Vec::with_capacity(alloc, room)?;
-    journal(&histories, &mut text)?;
+    journal(histories, &mut text)?;
     Ok(text)
 }
 
@@ -133,12 +96,12 @@ fn told_texts<R: Threads + Sync>(
     alloc: Global,
     lines: &[Line],
     sent: usize,
-    histories: Vec<Vec<Entry<Call>>>,
+    histories: &[Vec<Entry<Call>>],
 ) -> (Result<String, AllocError>, Result<Vec<u8>, AllocError>)
     requires lines { length lines.now ≤ 262144 }
     requires sent { sent ≤ 11 * 262144 }
     ensures report { IfOk result.0 (λ report. string_bytes report ≡ report_lines 0 lines.now ++ last_text (length lines.now) sent) }
-    ensures journal { IfOk result.1 (λ text. text.items ≡ journal_text (map (λ h. h.items) histories.items)) }
+    ensures journal { IfOk result.1 (λ text. text.items ≡ journal_text (map (λ h. h.items) histories.now)) }
 {
     join(
         rt,
@@ -146,8 +109,8 @@ fn told_texts<R: Threads + Sync>(
             requires { (length lines.now ≤ 262144) × (sent ≤ 11 * 262144) }
             ensures { IfOk result (λ report. string_bytes report ≡ report_lines 0 lines.entry.now ++ last_text (length lines.entry.now) sent) }
         { told_text(alloc, lines, sent) },
-        move || -> Result<Vec<u8>, AllocError>
-            ensures { IfOk result (λ text. text.items ≡ journal_text (map (λ h. h.items) histories.items)) }
+        || -> Result<Vec<u8>, AllocError>
+            ensures { IfOk result (λ text. text.items ≡ journal_text (map (λ h. h.items) histories.entry.now)) }
         { told_calls(alloc, histories) },
     )
 }
@@ -156,32 +119,33 @@ fn told_texts<R: Threads + Sync>(
 fn texts_of<R: Threads + Sync>(
     rt: &R,
     alloc: Global,
-    inputs: &Inputs,
+    trace: &[u8],
     frames: &[Frame],
-    ran: RunResult,
+    lines: &[Line],
+    sent: &[(u32, Segment)],
+    histories: &[Vec<Entry<Call>>],
 ) -> Result<RunTexts, AllocError>
-    requires frames { frames.now ≡ (capture_of inputs.now.trace).frames }
-    requires sent { AllByRecursion (IsSent (length frames.now)) ran.result.outs }
-    requires lines { length ran.result.lines ≤ 262144 }
-    requires few { length ran.result.outs ≤ 11 * 262144 }
-    ensures out { IfOk result (λ t. t.out.items ≡ outs_text (capture_of inputs.now.trace).frames ran.result.outs) }
-    ensures report { IfOk result (λ t. string_bytes t.report ≡ report_text ran.result.lines ran.result.outs) }
-    ensures journal { IfOk result (λ t. t.journal.items ≡ journal_text (map (λ h. h.items) ran.histories.items)) }
+    requires inside { All (λ f. f.at + f.kept ≤ length trace.now) frames.now }
+    requires sent { AllByRecursion (IsSentFrom trace.now frames.now) sent.now }
+    requires lines { length lines.now ≤ 262144 }
+    requires few { length sent.now ≤ 11 * 262144 }
+    ensures out { IfOk result (λ t. parts_text trace.now t.out.items ≡ outs_text frames.now sent.now) }
+    ensures spliced { IfOk result (λ t. AreSpliced trace.now t.out.items) }
+    ensures report { IfOk result (λ t. string_bytes t.report ≡ report_text lines.now sent.now) }
+    ensures journal { IfOk result (λ t. t.journal.items ≡ journal_text (map (λ h. h.items) histories.now)) }
 {
-    let RunResult { result, histories } = ran;
-    let Result1 { lines, outs } = result;
-    let sent = outs.as_slice().len();
+    let count = sent.len();
     let (out, (report, journal)) = join(
         rt,
-        move || -> Result<Vec<u8>, AllocError>
-            requires { (frames.now ≡ (capture_of inputs.now.trace).frames) × AllByRecursion (IsSent (length frames.now)) outs }
-            ensures { IfOk result (λ out. out.items ≡ outs_text (capture_of inputs.entry.now.trace).frames outs) }
-        { sent_text(alloc, inputs, frames, outs) },
-        move || -> (Result<String, AllocError>, Result<Vec<u8>, AllocError>)
-            requires { IsSync R.row × (length lines ≤ 262144) × (sent ≤ 11 * 262144) }
-            ensures { IfOk result.0 (λ report. string_bytes report ≡ report_lines 0 lines ++ last_text (length lines) sent)
-                × IfOk result.1 (λ text. text.items ≡ journal_text (map (λ h. h.items) histories.items)) }
-        { told_texts(rt, alloc, lines.as_slice(), sent, histories) },
+        || -> Result<Vec<Spliced>, AllocError>
+            requires { IsSync R.row × All (λ f. f.at + f.kept ≤ length trace.now) frames.now × AllByRecursion (IsSentFrom trace.now frames.now) sent.now }
+            ensures { IfOk result (λ parts. (parts_text trace.entry.now parts.items ≡ outs_text frames.entry.now sent.entry.now) × AreSpliced trace.entry.now parts.items) }
+        { sent_parts(rt, alloc, trace, frames, sent) },
+        || -> (Result<String, AllocError>, Result<Vec<u8>, AllocError>)
+            requires { IsSync R.row × (length lines.now ≤ 262144) × (count ≤ 11 * 262144) }
+            ensures { IfOk result.0 (λ report. string_bytes report ≡ report_lines 0 lines.entry.now ++ last_text (length lines.entry.now) count)
+                × IfOk result.1 (λ text. text.items ≡ journal_text (map (λ h. h.items) histories.entry.now)) }
+        { told_texts(rt, alloc, lines, count, histories) },
     );
     Ok(RunTexts {
         out: out?,
@@ -190,18 +154,46 @@ fn texts_of<R: Threads + Sync>(
     })
 }
 
-/// The texts of a run over the inputs, with a thread for each worker where one can be had. The one error is want of memory.
+// The texts of a run over the inputs that left this, where the frames are those of the trace. The one error is want of memory.
+fn texts_left<R: Threads + Sync>(
+    rt: &R,
+    alloc: Global,
+    inputs: &Inputs,
+    frames: &[Frame],
+    ran: &RunResult,
+) -> Result<RunTexts, AllocError>
+    requires frames { frames.now ≡ (capture_of inputs.now.trace).frames }
+    requires inside { All (λ f. f.at + f.kept ≤ length inputs.now.trace) frames.now }
+    requires sent { AllByRecursion (IsSentFrom inputs.now.trace (capture_of inputs.now.trace).frames) ran.now.result.outs }
+    requires lines { length ran.now.result.lines ≤ 262144 }
+    requires few { length ran.now.result.outs ≤ 11 * 262144 }
+    ensures out { IfOk result (λ t. parts_text inputs.now.trace t.out.items ≡ outs_text (capture_of inputs.now.trace).frames ran.now.result.outs) }
+    ensures spliced { IfOk result (λ t. AreSpliced inputs.now.trace t.out.items) }
+    ensures report { IfOk result (λ t. string_bytes t.report ≡ report_text ran.now.result.lines ran.now.result.outs) }
+    ensures journal { IfOk result (λ t. t.journal.items ≡ journal_text (map (λ h. h.items) ran.now.histories.items)) }
+{
+    let trace = inputs.trace.as_slice();
+    let lines = ran.result.lines.as_slice();
+    let sent = ran.result.outs.as_slice();
+    let texts = texts_of(rt, alloc, trace, frames, lines, sent, &ran.histories)?;
+    Ok(texts)
+}
+
+/// The texts of a run over the inputs, with a thread for each worker where one can be had, and what is left of the run then. The
+/// one error is want of memory.
 pub fn threaded_texts<R: Threads + Wait + Sync>(
     rt: &R,
     alloc: Global,
     inputs: &Inputs,
-) -> Result<RunTexts, AllocError>
+) -> Result<(RunTexts, RunResult), AllocError>
     requires { IsInputs inputs.now }
-    ensures { IfOk result (λ t. AreRunTexts inputs.now (t.out.items ∷ string_bytes t.report ∷ t.journal.items ∷ [])) }
+    ensures run { IfOk result (λ r. AreRunTexts inputs.now (parts_text inputs.now.trace r.0.out.items ∷ string_bytes r.0.report ∷ r.0.journal.items ∷ [])) }
+    ensures spliced { IfOk result (λ r. AreSpliced inputs.now.trace r.0.out.items) }
 {
     calls_are_named();
     verdicts_are_caused();
     journal_determines();
+    assignments();
     store_laws();
     job_laws();
     move_laws();
@@ -210,6 +202,6 @@ pub fn threaded_texts<R: Threads + Wait + Sync>(
     inputs.setup.known();
     let frames = frames_of(alloc, inputs)?;
     let ran = run_frames(rt, alloc, inputs, &frames, &OpenGate)?;
-    let texts = texts_of(rt, alloc, inputs, &frames, ran)?;
-    Ok(texts)
+    let texts = texts_left(rt, alloc, inputs, &frames, &ran)?;
+    Ok((texts, ran))
 }

@@ -181,8 +181,9 @@ fn send_splices<H: Shelf>(
     Ok(from)
 }
 
-// Adds a text, of which parts stand in the trace, to what the name holds. After `Failed` a beginning of it was added.
-fn append_spliced<H: Shelf>(
+/// Adds a text, of which parts stand in the trace, to what the name holds, by way of the buffer, which is then empty again. After
+/// `Failed` a beginning of it was added.
+pub fn append_spliced<H: Shelf>(
     shelf: &mut H,
     name: &str,
     trace: &[u8],
@@ -192,6 +193,7 @@ fn append_spliced<H: Shelf>(
     requires spliced { IsSpliced trace.now text.now }
     requires empty { buffer.old.items ≡ [] }
     ensures all { OnOk result (H.content shelf.new name.now ≡ longer (H.content shelf.old name.now) (text_of trace.now text.now)) }
+    ensures emptied { OnOk result (buffer.new.items ≡ []) }
     ensures part { OnErr result (AddsPart (H.content shelf.old name.now) (H.content shelf.new name.now) (text_of trace.now text.now)) }
     ensures others { SameOthers name.now (H.content shelf.old) (H.content shelf.new) }
     ensures cause { OnErr result (Rose (H.faults shelf.old Writing name.now) (H.faults shelf.new Writing name.now)) }

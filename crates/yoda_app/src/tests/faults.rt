@@ -20,8 +20,9 @@ const READ: usize = 3;
 /// the trace, and behind it.
 const CALLS_OF_PLAIN: [usize; 5] = [2, 2, 2, 3, 2];
 
-/// How many calls `run` makes at each.
-const CALLS_OF_RUN: [usize; 6] = [2; 6];
+/// How many calls `run` makes at each: what it sends is added in a head and four parts, and the part with the data that stands
+/// in the trace in two calls.
+const CALLS_OF_RUN: [usize; 6] = [2, 2, 2, 7, 2, 2];
 
 /// The place of the name at which this call is made, where each name gets so many.
 fn place_of(call: usize, calls: &[usize]) -> usize {
@@ -94,7 +95,7 @@ fn a_call_of_the_shelf_that_fails_is_named(rt: HostRuntime) -> Result<(), Fail> 
     let alloc = rt.alloc();
     let commands = [
         (PLAIN, CALLS_OF_PLAIN.as_slice(), 11),
-        (RUN, CALLS_OF_RUN.as_slice(), 12),
+        (RUN, CALLS_OF_RUN.as_slice(), 17),
     ];
     for (words, calls, count) in commands {
         let mut whole = whole_flow(alloc, &[])?;

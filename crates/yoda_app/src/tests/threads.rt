@@ -141,8 +141,8 @@ fn an_output_of_a_run_that_fails_is_named(rt: HostRuntime) -> Result<(), Fail> {
     let alloc = rt.alloc();
     let rows: [(u64, &str, [bool; 3]); 3] = [
         (5, "4 write fault: out.pcap\n", [false, false, false]),
-        (7, "4 write fault: report.txt\n", [true, false, false]),
-        (9, "4 write fault: journal.txt\n", [true, true, false]),
+        (8, "4 write fault: report.txt\n", [true, false, false]),
+        (10, "4 write fault: journal.txt\n", [true, true, false]),
     ];
     let trace = capture_of(alloc, 0, &SYN)?;
     for (call, wanted, written) in rows {

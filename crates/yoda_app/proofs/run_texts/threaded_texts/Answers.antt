@@ -1,11 +1,21 @@
-use Rattle.std.proofs.Common.{[], ◌∷◌}
+use Rattle.std.proofs.Common.{ℕ, [], ◌∷◌, subst}
+use Rattle.std.specs.List.{AllByRecursion}
 use Rattle.std.specs.Prelude.{map}
+use Rattle.run_threads.specs.Outs.{IsSent}
 use Rattle.yoda_app.proofs.ScriptRead.{script_read}
+use Rattle.yoda_app.proofs.SentFrom.{sent_from}
 use Rattle.yoda_app.specs.RunCommand.{calls_on}
 use Rattle.yoda_app.proofs.run_texts.threaded_texts.Goals as goal
 
-pub returns : goal.returns
-returns g c =
+pub texts_left-requires-clause-sent : goal.texts_left-requires-clause-sent
+texts_left-requires-clause-sent g c =
+    let inputs = c.args.inputs.now in
+    let ran = c.in_ok-ran.ran in
+    λ lives within. sent_from inputs c.known.ensures c.assignments.ensures ran.result.lines ran.result.outs (map (λ h. h.items) ran.histories.items) c.in_ok-ran.ensures.run
+    (subst (λ (n : ℕ). AllByRecursion (IsSent n) ran.result.outs) c.requires.records c.in_ok-ran.ensures.sent)
+
+pub returns-clause-run : goal.returns-clause-run
+returns-clause-run g c =
     let inputs = c.args.inputs.now in
     let ran = c.in_ok-ran.ran in
     let lines = ran.result.lines in
