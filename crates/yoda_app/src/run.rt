@@ -114,9 +114,16 @@ fn write_texts<'a, H: Shelf>(
     }
 }
 
-// Gives back what is left of a run in a thread of its own, if there can be one: it is many small pieces.
-fn give_back<R: Threads>(rt: &R, left: RunResult) -> Option<JoinHandle<()>> {
-    thread::spawn(rt, move || drop(left)).ok()
+// Gives back what is left of a run, which is many small pieces: in a thread the segments, and in one the calls of the
+// histories, if there can be such threads.
+fn give_back<R: Threads>(
+    rt: &R,
+    left: RunResult,
+) -> (Option<JoinHandle<()>>, Option<JoinHandle<()>>) {
+    let RunResult { result, histories } = left;
+    let segments = thread::spawn(rt, move || drop(result)).ok();
+    let calls = thread::spawn(rt, move || drop(histories)).ok();
+    (segments, calls)
 }
 
 // Waits for the thread, if there is one.
@@ -144,8 +151,9 @@ pub fn run<'a, R: Threads + Wait + Sync, H: Shelf>(
 {
     let (inputs, texts, left) = prepare(rt, alloc, shelf, names)?;
     let mut buffer = Vec::with_capacity(alloc, BUFFER_BYTES)?;
-    let giving_back = give_back(rt, left);
+    let (segments, calls) = give_back(rt, left);
     let written = write_texts(shelf, names, inputs.trace.as_slice(), &texts, &mut buffer);
-    wait_for(rt, giving_back);
+    wait_for(rt, segments);
+    wait_for(rt, calls);
     written
 }
