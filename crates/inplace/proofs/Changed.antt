@@ -1,5 +1,5 @@
 -- A segment that a packet holds, with other fields of a change, is what its rewritten headers give.
-use Rattle.std.proofs.Common.{◌≡◌, ℕ, ◌%◌, false, List, length, refl, sym, ap, subst, ◌∙◌}
+use Rattle.std.proofs.Common.{◌≡◌, ℕ, ◌%◌, false, List, length, sym, ap, subst, ◌∙◌}
 use Rattle.tcp_segment.specs.Flags.{has_syn}
 use Rattle.tcp_segment.specs.Segments.{IsView, flags_of}
 use Rattle.tcp_segment.specs.declared.options.Options.{Options}

@@ -1,5 +1,5 @@
 -- Bytes without a fault are a packet that holds a segment.
-use Rattle.std.proofs.Common.{◌≡◌, ◌≤◌, ℕ, ◌*◌, Bool, true, false, not, ◌==◌, ◌||◌, List, [], ◌∷◌, length, None, refl}
+use Rattle.std.proofs.Common.{◌≡◌, ℕ, ◌*◌, Bool, true, false, not, ◌==◌, ◌||◌, List, [], ◌∷◌, length, None, refl}
 use Rattle.std.specs.Prelude.{nat_lt, slice_range, unwrap_or, Result, Ok, Err}
 use Rattle.std.specs.List.{AllByRecursion}
 use Rattle.std.specs.Result.{is_err, result_ok}

@@ -12,7 +12,7 @@ use Rattle.ipv4.specs.Written.{header}
 use Rattle.ipv4.proofs.Ones.{sum-words-append}
 use Rattle.tcp_segment.specs.Flags.{has_ack}
 use Rattle.tcp_segment.specs.Segments.{IsView, pseudo_header, offset_words}
-use Rattle.tcp_segment.specs.Written.{mss_bytes, scale_bytes, head_with, sum_of, packet_bytes}
+use Rattle.tcp_segment.specs.Written.{mss_bytes, permitted_bytes, scale_bytes, sack_bytes, head_with, sum_of, packet_bytes}
 use Rattle.tcp_segment.specs.declared.segment.Head.{Head}
 use Rattle.tcp_segment.specs.declared.segment.View.{View}
 use Rattle.tcp_segment.specs.declared.segment.Segment.{Segment}
@@ -152,7 +152,7 @@ module _ (head : List ℕ) (n : ℕ) (body : List ℕ) (packet : Packet) (view :
 
     -- its checksum
     sum-is : carried_on (sum_before head n) (sum_after change (head_after change head) n) ≡ sum_of change.source change.target new.head body
-    unfolding mss_bytes scale_bytes
+    unfolding mss_bytes permitted_bytes scale_bytes sack_bytes
     sum-is =
         let pseudo = pseudo_header packet.source packet.target (length tcp + n) in
         let pseudo2 = pseudo_header change.source change.target (20 + n) in
@@ -167,7 +167,7 @@ module _ (head : List ℕ) (n : ℕ) (body : List ℕ) (packet : Packet) (view :
         ∙ ap (λ (m : ℕ). checksum (pseudo_header change.source change.target (20 + m) ++ (h2 ++ body))) (sym fits.size)
 
     pub rewritten-is : headers_after change head n ++ body ≡ packet_bytes new
-    unfolding mss_bytes scale_bytes
+    unfolding mss_bytes permitted_bytes scale_bytes sack_bytes
     rewritten-is =
         let sum2 = sum_of change.source change.target new.head body in
         let size : 40 + n ≡ 20 + length (head_with new.head 5 sum2 ++ body) = omega (arith, length-append (head_with new.head 5 sum2) body, length-head new.head 5 sum2, fits.size) in

@@ -1,8 +1,8 @@
-ghost use Rattle.std.specs.Prelude.{◌≤◌, ◌+◌, ◌-◌, length, take, IfOk, IfSome};
+ghost use Rattle.std.specs.Prelude.{◌≡◌, ◌≤◌, ◌+◌, ◌-◌, length, take, IfOk, IfSome};
 ghost use Rattle.std.specs.Bool.{OnTrue};
 ghost use Rattle.inplace.specs.Packets.{HoldsSegment};
 ghost use Rattle.inplace.specs.Rewriting.{HasFitting};
-ghost use Rattle.tcp_segment.specs.Written.{written_length};
+ghost use Rattle.tcp_segment.specs.Written.{area_length};
 
 use crate::{Change, rewrite, what_is_read_fits, write_front};
 use seq_space::Num;
@@ -130,7 +130,7 @@ fn holds_segment(packet: &[u8]) -> bool
 
 /// A segment with these flags and this data, and the fields of a change.
 fn segment_of(alloc: Global, change: &Change, flags: u8, body: &[u8]) -> Result<Segment, AllocError>
-    ensures { IfOk result (λ s. written_length s.head (length s.body) ≤ 20 + length body.now) }
+    ensures { IfOk result (λ s. (area_length s.head.options ≡ 0) × (length s.body ≡ length body.now)) }
 {
     Ok(Segment {
         source: change.source,

@@ -2,9 +2,9 @@
 ghost use Rattle.std.specs.Prelude.{◌≡◌, ◌≤◌, ℕ, List, length, slice_range, IsTrue, IfOk, OnOk, OnErr};
 ghost use Rattle.ipv4.specs.Packet.{IsPacket};
 ghost use Rattle.ipv4.specs.declared.packet.Packet.{Packet};
-ghost use Rattle.ipv4.specs.declared.packet.TheConstants.{PAYLOAD_LIMIT};
+ghost use Rattle.tcp_segment.specs.OptionArea.{no_options};
 ghost use Rattle.tcp_segment.specs.Segments.{IsView};
-ghost use Rattle.tcp_segment.specs.Written.{written_length};
+ghost use Rattle.tcp_segment.specs.Written.{FitsPacket};
 ghost use Rattle.tcp_segment.specs.declared.segment.View.{View};
 ghost use Rattle.inplace.specs.Packets.{HoldsSegment, AreFront, AreParts, IsChanged, IsPlaceOf};
 ghost use Rattle.inplace.specs.Rewriting.{HasFitting, IsFitting, changed};
@@ -60,6 +60,13 @@ fn parts_of(packet: &[u8]) -> Parts<'_>
     }
 }
 
+// Whether these are no options.
+fn are_none(options: &Options) -> bool
+    ensures { IsTrue result → options.now ≡ no_options }
+{
+    *options == Options::none()
+}
+
 // Whether the segment is the one in these bytes with this data, but for the fields of a change, and for what rewritten
 // headers have anew.
 fn is_changed(bytes: &[u8], body: &[u8], segment: &Segment) -> bool
@@ -68,7 +75,7 @@ fn is_changed(bytes: &[u8], body: &[u8], segment: &Segment) -> bool
 {
     let flags = bytes[13];
     flags / SYN % 2 == 0
-        && segment.head.options == Options::none()
+        && are_none(&segment.head.options)
         && segment.head.flags == flags % 0x40
         && segment.head.urgent == u16_at(bytes, 18)
         && (flags / ACK % 2 == 1 || segment.head.ack == Num(0))
@@ -104,7 +111,7 @@ fn write_headers(
 pub fn write_front(packet: &[u8], segment: &Segment, out: &mut Vec<u8>) -> Result<Place, AllocError>
     // The packet is one that is read, and so is its segment.
     requires packet { HoldsSegment packet.now }
-    requires fits { written_length segment.now.head (length segment.now.body) ≤ PAYLOAD_LIMIT }
+    requires fits { FitsPacket segment.now.head (length segment.now.body) }
     ensures ok { IfOk result (λ place. AreFront out.old.items out.new.items (slice_range packet.now place.start place.end) segment.now) }
     ensures ordered { IfOk result (λ place. place.start ≤ place.end) }
     ensures inside { IfOk result (λ place. place.end ≤ length packet.now) }

@@ -1,6 +1,5 @@
 use Rattle.std.proofs.Common.{◌≡◌, ◌++◌, List, ℕ, sym, ap, ◌∙◌}
 use Rattle.tcp_segment.specs.Written.{packet_bytes}
-use Rattle.tcp_segment.specs.declared.segment.Segment.{Segment}
 use Rattle.inplace.specs.declared.change.Change.{Change}
 use Rattle.inplace.specs.Rewriting.{changed}
 use Rattle.inplace.proofs.Changed.{parts-fit, parts-make}

@@ -1,4 +1,4 @@
-use Rattle.std.proofs.Common.{◌≡◌, ◌++◌, length, List, ℕ, ◌-◌, take, drop, ap, sym, subst, ◌∙◌, arith}
+use Rattle.std.proofs.Common.{◌++◌, length, List, ℕ, drop, ap, sym, subst, ◌∙◌, arith}
 use Rattle.std.proofs.lemmas.Slice.{between_to_end}
 use Rattle.inplace.specs.Rewriting.{IsFitting}
 use Rattle.inplace.proofs.writing.write_headers.Goals as goal
