@@ -6,7 +6,7 @@ use Rattle.flow_id.specs.declared.key.Flow.{Flow}
 use Rattle.flow_id.specs.Hashes.{marked}
 use Rattle.flow_record.specs.declared.record.Record.{Record}
 use Rattle.flow_record.specs.declared.record.Record.TheVariants.{Syn}
-use Rattle.flow_record.specs.Records.{syn_number, syn_scale}
+use Rattle.flow_record.specs.Records.{syn_number, syn_scale, syn_sack}
 use Rattle.window_scale.specs.Windows.{own_shift}
 use Rattle.tcp_segment.specs.OptionArea.{no_options, shift_of}
 use Rattle.tcp_segment.specs.declared.segment.Head.{Head}
@@ -22,7 +22,8 @@ syn_record_of head =
 abbrev pub forged_of : SetupView → Flow → ℕ
 forged_of setup flow = (marked setup.secret flow).forged
 
--- the answer to the SYN that the record is of; the balancer scales its windows where the client scales its own
+-- the answer to the SYN that the record is of; the balancer scales its windows, and takes selective acknowledgments, where
+-- the client does
 unfoldable pub syn_ack_segment : SetupView → Flow → Record → Segment
 syn_ack_segment setup flow syn = record {
   source = setup.service.address;
@@ -35,7 +36,7 @@ syn_ack_segment setup flow syn = record {
     flags = 0x12;
     window = 14600;
     urgent = 0;
-    options = record no_options { mss = Some 1460; scale = option_map (λ shift. own_shift) (syn_scale syn) };
+    options = record no_options { mss = Some 1460; scale = option_map (λ shift. own_shift) (syn_scale syn); sack_permitted = syn_sack syn };
   };
   body = [];
 }

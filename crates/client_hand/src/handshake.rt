@@ -39,8 +39,9 @@ pub fn syn_record(head: &Head) -> Record
 }
 
 /// The answer to the SYN that the record is of (RFC 9293, 3.5). It goes from the service to the client, has the number
-/// that the flow's hash gives and acknowledges the SYN; it offers a window of 14600 and segments of 1460 bytes, and scales
-/// later windows where the client scales its own. It takes no memory.
+/// that the flow's hash gives and acknowledges the SYN; it offers a window of 14600 and segments of 1460 bytes, scales
+/// later windows where the client scales its own, and takes selective acknowledgments where the client does. It takes no
+/// memory.
 #[tactic(auto, unfolding(crate::specs::SynAck::syn_ack_segment))]
 pub fn syn_ack(alloc: Global, setup: &Setup, flow: &Flow, item: &Record) -> Segment
     requires { IsTrue (is_syn item.now) }
@@ -50,6 +51,7 @@ pub fn syn_ack(alloc: Global, setup: &Setup, flow: &Flow, item: &Record) -> Segm
     let Record::Syn {
         number: first,
         scale,
+        sack,
         ..
     } = *item
     else {
@@ -73,6 +75,7 @@ pub fn syn_ack(alloc: Global, setup: &Setup, flow: &Flow, item: &Record) -> Segm
                 } else {
                     None
                 },
+                sack_permitted: sack,
                 ..Options::none()
             },
         },

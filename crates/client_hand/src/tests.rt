@@ -69,6 +69,7 @@ fn a_syn_is_kept_with_its_options(rt: HostRuntime) {
         mss: Some(1400),
         scale: Some(7),
         sack_permitted: true,
+        ..none
     };
     let wide = Options {
         scale: Some(15),
@@ -91,15 +92,22 @@ fn a_syn_is_kept_with_its_options(rt: HostRuntime) {
 }
 
 #[test]
-fn windows_are_scaled_where_the_client_scales_its_own(rt: HostRuntime) -> Result<(), Fail> {
+fn options_are_answered_where_the_client_has_them(rt: HostRuntime) -> Result<(), Fail> {
     let setup = setup(rt.alloc())?;
-    for (scale, own) in [(None, None), (Some(0), Some(7)), (Some(14), Some(7))] {
+    for (scale, own, permits) in [
+        (None, None, false),
+        (None, None, true),
+        (Some(0), Some(7), false),
+        (Some(14), Some(7), true),
+    ] {
         let given = Options {
             scale,
+            sack_permitted: permits,
             ..Options::none()
         };
         let answer = syn_ack(rt.alloc(), &setup, &CLIENT, &syn_record(&syn(given)));
         assert_eq!(rt; answer.head.options.scale, own);
+        assert_eq!(rt; answer.head.options.sack_permitted, permits);
         assert_eq!(rt; answer.head.options.mss, Some(1460));
         assert_eq!(rt; answer.head.window, 14600);
     }

@@ -43,7 +43,8 @@ abbrev pub is_gone : Record → Bool
 is_gone (Gone by) = true
 is_gone _ = false
 
--- ---- what stands in it; of another kind of record the answer is 0, no scale, the flow of zeros, or the client
+-- ---- what stands in it; of another kind of record the answer is 0, no scale, no leave, the flow of
+-- zeros, or the client
 abbrev pub syn_number : Record → ℕ
 syn_number (Syn number mss window scale sack) = number.0
 syn_number _ = 0
@@ -59,6 +60,10 @@ syn_window _ = 0
 abbrev pub syn_scale : Record → Option ℕ
 syn_scale (Syn number mss window scale sack) = scale
 syn_scale _ = None
+
+abbrev pub syn_sack : Record → Bool
+syn_sack (Syn number mss window scale sack) = sack
+syn_sack _ = false
 
 abbrev pub choice_server : Record → ℕ
 choice_server (Choice server rule) = server
@@ -87,6 +92,10 @@ open_number _ = 0
 abbrev pub open_scale : Record → Option ℕ
 open_scale (Open server port number scale sack) = scale
 open_scale _ = None
+
+abbrev pub open_sack : Record → Bool
+open_sack (Open server port number scale sack) = sack
+open_sack _ = false
 
 abbrev pub fin_side : Record → Side
 fin_side (Fin side number) = side

@@ -6,7 +6,7 @@ use Rattle.std.specs.Fork.{slice_chunk}
 use Rattle.std.specs.Int.{div_ceil}
 use Rattle.seq_space.specs.Positions.{number_of}
 use Rattle.flow_record.specs.declared.record.Record.{Record}
-use Rattle.flow_record.specs.Records.{syn_number, syn_mss, syn_window, syn_scale, open_server, open_port, open_number, open_scale}
+use Rattle.flow_record.specs.Records.{syn_number, syn_mss, syn_window, syn_scale, syn_sack, open_server, open_port, open_number, open_scale}
 use Rattle.window_scale.specs.Windows.{IsGreatest, restated, shifts_by}
 use Rattle.tcp_segment.specs.OptionArea.{no_options}
 use Rattle.tcp_segment.specs.declared.segment.Segment.{Segment}
@@ -25,7 +25,7 @@ server_syn_segment setup syn server port = record {
     flags = 0x02;
     window = syn_window syn;
     urgent = 0;
-    options = record no_options { mss = Some (min 1460 (syn_mss syn)); scale = syn_scale syn };
+    options = record no_options { mss = Some (min 1460 (syn_mss syn)); scale = syn_scale syn; sack_permitted = syn_sack syn };
   };
   body = [];
 }

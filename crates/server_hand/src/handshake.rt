@@ -22,8 +22,8 @@ const DEFAULT_PIECE: u16 = 536;
 /// How many pieces are sent at once. What is left comes again from the client.
 const MOST_PIECES: usize = 10;
 
-/// The SYN that opens the connection to a server: the client's own, with its number, window and scale and at most its
-/// maximum segment size, sent from this port of the service's address. It takes no memory.
+/// The SYN that opens the connection to a server: the client's own, with its number, window and scale, its leave for
+/// selective acknowledgments and at most its maximum segment size, sent from this port of the service's address. It takes no memory.
 #[tactic(auto, unfolding(crate::specs::Opening::server_syn_segment))]
 pub fn server_syn(alloc: Global, setup: &Setup, syn: &Record, server: u16, port: u16) -> Segment
     requires syn { IsTrue (is_syn syn.now) }
@@ -35,7 +35,7 @@ pub fn server_syn(alloc: Global, setup: &Setup, syn: &Record, server: u16, port:
         mss,
         window,
         scale,
-        ..
+        sack,
     } = *syn
     else {
         unreachable!()
@@ -57,6 +57,7 @@ pub fn server_syn(alloc: Global, setup: &Setup, syn: &Record, server: u16, port:
             options: Options {
                 mss: Some(mss.min(LARGEST_PIECE)),
                 scale,
+                sack_permitted: sack,
                 ..Options::none()
             },
         },

@@ -249,5 +249,16 @@ fn the_server_is_told_the_window_by_its_own_reading(rt: HostRuntime) -> Result<(
     let sent = server_syn(rt.alloc(), &setup, &syn, 0, 2047);
     assert_eq!(rt; sent.head.options.scale, Some(7));
     assert_eq!(rt; sent.head.window, 64240);
+    for sack in [false, true] {
+        let syn = Record::Syn {
+            number: Num(1000),
+            mss: 1460,
+            window: 64240,
+            scale: None,
+            sack,
+        };
+        let sent = server_syn(rt.alloc(), &setup, &syn, 0, 2047);
+        assert_eq!(rt; sent.head.options.sack_permitted, sack);
+    }
     Ok(())
 }
