@@ -1,25 +1,34 @@
 -- How segments are passed on between the two connections of a flow. The client's stream has the same numbers on both;
 -- the server's has its own on the server's side, and those that the balancer forged on the client's. Windows are told to
 -- each side by the shift with which it reads them (RFC 7323, 2.3).
-use Rattle.std.specs.Prelude.{◌≡◌, ◌<◌, ℕ, ◌%◌, ◌^◌, true, false, if◌then◌else◌}
-use Rattle.seq_space.specs.Positions.{number_of, difference}
+use Rattle.std.specs.Prelude.{◌≡◌, ◌≤◌, ◌<◌, ◌&&◌, ℕ, ◌%◌, Bool, true, false, if◌then◌else◌, List, []}
+use Rattle.seq_space.specs.Blocks.{FitsBlocks}
+use Rattle.seq_space.specs.Positions.{number_of}
+use Rattle.seq_space.specs.declared.Num.{Num}
 use Rattle.flow_id.specs.declared.key.Flow.{Flow}
 use Rattle.flow_record.specs.declared.record.Record.{Record}
-use Rattle.flow_record.specs.Records.{syn_scale, open_server, open_port, open_number, open_scale}
+use Rattle.flow_record.specs.Records.{syn_scale, syn_sack, open_server, open_port, open_number, open_scale, open_sack}
+use Rattle.sack_opt.specs.Moves.{moved, moved_blocks, AreSameBlocks}
 use Rattle.window_scale.specs.Windows.{IsGreatest, counted, restated, shifts_by}
 use Rattle.window_scale.specs.declared.scales.Shifts.{Shifts}
 use Rattle.tcp_segment.specs.Flags.{has_fin, has_syn, has_rst, has_psh, has_ack, has_urg}
 use Rattle.tcp_segment.specs.OptionArea.{no_options}
+use Rattle.tcp_segment.specs.Written.{area_length, sack_length}
+use Rattle.tcp_segment.specs.declared.options.Options.{Options}
 use Rattle.tcp_segment.specs.declared.segment.Segment.{Segment}
 use Rattle.rule_table.specs.Setups.{SetupView, server_of}
-
--- the number that is as far ahead of `to` as n is of `from`: n - from + to, modulo 2 ^ 32
-abbrev pub moved : ℕ → ℕ → ℕ → ℕ
-moved from to n = number_of to (difference n (from % 2 ^ 32))
 
 -- the flags without CWR and ECE
 abbrev pub kept_flags : ℕ → ℕ
 kept_flags flags = flags % 64
+
+-- both ends of a flow take selective acknowledgments
+abbrev pub both_permit : Record → Record → Bool
+both_permit syn opened = syn_sack syn && open_sack opened
+
+-- the options of a segment that is passed on: these blocks, where both ends take them
+abbrev pub passed_options : Record → Record → List (Num × Num) → Options
+passed_options syn opened blocks = record no_options { sack = if both_permit syn opened then blocks else [] }
 
 -- by how many bits each side of a flow shifts its windows
 abbrev pub shifts_between : Record → Record → Shifts
@@ -38,7 +47,7 @@ to_server_segment setup seg forged syn opened = record {
     flags = kept_flags seg.head.flags;
     window = restated seg.head.window (shifts_between syn opened).client_gives (shifts_between syn opened).server_reads;
     urgent = seg.head.urgent;
-    options = no_options;
+    options = passed_options syn opened (moved_blocks forged (open_number opened) seg.head.options.sack);
   };
   body = seg.body;
 }
@@ -56,7 +65,7 @@ to_client_segment setup seg forged syn opened flow = record {
     flags = kept_flags seg.head.flags;
     window = restated seg.head.window (shifts_between syn opened).server_gives (shifts_between syn opened).client_reads;
     urgent = seg.head.urgent;
-    options = no_options;
+    options = passed_options syn opened seg.head.options.sack;
   };
   body = seg.body;
 }
@@ -73,6 +82,15 @@ pub record KeepsFlags (was is : ℕ) : Type 0 where
   pub urg : has_urg is ≡ has_urg was
   pub clear : is < 64
 
+-- The options of a segment that is passed on are blocks alone: none where an end does not take them, else the taken ones,
+-- as many in the same order, and near every position each edge names the same position of the stream that counts from `to`
+-- as it did of the one that counts from `from`, or none on both sides. They take no more room than those that were taken.
+pub record PassesBlocks (syn opened : Record) (from to : ℕ) (taken sent : Options) : Type 0 where
+  pub blocks : both_permit syn opened ≡ true → FitsBlocks taken.sack → AreSameBlocks from to taken.sack sent.sack
+  pub none : both_permit syn opened ≡ false → sent.sack ≡ []
+  pub alone : sent ≡ record no_options { sack = sent.sack }
+  pub room : area_length sent ≤ sack_length taken.sack
+
 -- The segment goes from the port that the flow owns to the server that was opened to, and is the client's, but for what
 -- it acknowledges and for its window: what the server counts by it is no more than the client gave, and no greater field
 -- counts so few.
@@ -86,6 +104,7 @@ pub record GoesToServer (setup : SetupView) (seg : Segment) (forged : ℕ) (syn 
   pub no_ack : has_ack seg.head.flags ≡ false → s.head.ack.0 ≡ 0
   pub flags : KeepsFlags seg.head.flags s.head.flags
   pub window : IsGreatest s.head.window (shifts_between syn opened).server_reads (counted seg.head.window (shifts_between syn opened).client_gives)
+  pub options : PassesBlocks syn opened forged (open_number opened) seg.head.options s.head.options
   pub body : s.body ≡ seg.body
 
 -- The segment goes from the service to the client, and is the server's, but for its sequence number and for its window,
@@ -100,6 +119,7 @@ pub record GoesToClient (setup : SetupView) (seg : Segment) (forged : ℕ) (syn 
   pub no_ack : has_ack seg.head.flags ≡ false → s.head.ack.0 ≡ 0
   pub flags : KeepsFlags seg.head.flags s.head.flags
   pub window : IsGreatest s.head.window (shifts_between syn opened).client_reads (counted seg.head.window (shifts_between syn opened).server_gives)
+  pub options : (first : ℕ) → PassesBlocks syn opened first first seg.head.options s.head.options
   pub body : s.body ≡ seg.body
 
 abbrev pub ToServerNumbers : Type 0

@@ -1,21 +1,15 @@
 ghost use Rattle.std.specs.Prelude.{◌≡◌, ◌<◌, length, IsTrue};
 ghost use Rattle.flow_record.specs.Records.{is_open, is_syn, open_server};
 ghost use Rattle.window_scale.specs.Windows.{AreShifts};
-ghost use Rattle.translate.specs.Translation.{kept_flags, moved, shifts_between, to_client_segment, to_server_segment};
+ghost use Rattle.translate.specs.Translation.{GoesToClient, GoesToServer, both_permit, kept_flags, passed_options, shifts_between, to_client_segment, to_server_segment};
 
 use flow_id::Flow;
 use flow_record::Record;
 use rule_table::Setup;
-use seq_space::{Num, minus, number};
+use sack_opt::shifted;
+use seq_space::{Blocks, Num};
 use tcp_segment::{ACK, FIN, Head, Options, PSH, RST, SYN, Segment, URG};
 use window_scale::{Shifts, restate, shifts};
-
-/// The number that is as far ahead of `to` as `n` is of `from`.
-fn shifted(from: Num, to: Num, n: Num) -> Num
-    ensures { result.0 ≡ moved from.0 to.0 n.0 }
-{
-    number(to, minus(n, from) as u64)
-}
 
 /// The flags without CWR and ECE (RFC 3168, 6.1), which speak of one connection alone.
 fn without_congestion(flags: u8) -> u8
@@ -48,11 +42,44 @@ fn shifts_of(syn: &Record, opened: &Record) -> Shifts
     shifts(syn_scale, open_scale)
 }
 
+/// Whether both ends of the flow take selective acknowledgments.
+fn both_permit(syn: &Record, opened: &Record) -> bool
+    ensures { result ≡ both_permit syn.now opened.now }
+{
+    matches!(syn, Record::Syn { sack: true, .. })
+        && matches!(opened, Record::Open { sack: true, .. })
+}
+
+/// The options of a segment that is passed on: these blocks, where both ends of the flow take them.
+fn passed_options(syn: &Record, opened: &Record, blocks: Blocks) -> Options
+    ensures { result ≡ passed_options syn.now opened.now blocks }
+{
+    Options {
+        sack: if both_permit(syn, opened) {
+            blocks
+        } else {
+            Blocks::none()
+        },
+        ..Options::none()
+    }
+}
+
 /// A client's segment as it goes on to the server: from the source port that the flow owns, with what it acknowledges
-/// counted from the server's first number in place of the forged one, and with its window as the server reads it. Options,
+/// counted from the server's first number in place of the forged one, and with its window as the server reads it. Its
+/// blocks, moved in the same way, go with it where both ends take selective acknowledgments (RFC 2018); all other options,
 /// CWR and ECE are dropped. The data is moved, so that it takes no memory.
-#[tactic(auto, unfolding(crate::specs::Translation::to_server_segment))]
 pub fn to_server(setup: &Setup, seg: Segment, forged: Num, syn: &Record, opened: &Record) -> Segment
+    requires syn { IsTrue (is_syn syn.now) }
+    requires opened { IsTrue (is_open opened.now) }
+    requires known { open_server opened.now < length setup.now.servers }
+    ensures segment { result ≡ to_server_segment setup.now seg forged.0 syn.now opened.now }
+    ensures goes { GoesToServer setup.now seg forged.0 syn.now opened.now result }
+{
+    server_bound(setup, seg, forged, syn, opened)
+}
+
+#[tactic(auto, unfolding(crate::specs::Translation::to_server_segment))]
+fn server_bound(setup: &Setup, seg: Segment, forged: Num, syn: &Record, opened: &Record) -> Segment
     requires syn { IsTrue (is_syn syn.now) }
     requires opened { IsTrue (is_open opened.now) }
     requires known { open_server opened.now < length setup.now.servers }
@@ -76,6 +103,7 @@ pub fn to_server(setup: &Setup, seg: Segment, forged: Num, syn: &Record, opened:
     } else {
         Num(0)
     };
+    let blocks = sack_opt::to_server(&seg.head.options.sack, forged, number);
     Segment {
         source: setup.service().address,
         target: server.address,
@@ -85,7 +113,7 @@ pub fn to_server(setup: &Setup, seg: Segment, forged: Num, syn: &Record, opened:
             ack,
             flags: without_congestion(seg.head.flags),
             window: restate(seg.head.window, by.client_gives, by.server_reads),
-            options: Options::none(),
+            options: passed_options(syn, opened, blocks),
             ..seg.head
         },
         body: seg.body,
@@ -93,10 +121,27 @@ pub fn to_server(setup: &Setup, seg: Segment, forged: Num, syn: &Record, opened:
 }
 
 /// A server's segment as it goes on to the client: from the service, with its sequence number counted from the forged
-/// number in place of the server's first one, and with its window as the client reads it. Options, CWR and ECE are
-/// dropped. The data is moved, so that it takes no memory.
-#[tactic(auto, unfolding(crate::specs::Translation::to_client_segment))]
+/// number in place of the server's first one, and with its window as the client reads it. Its blocks go with it as
+/// they are where both ends take selective acknowledgments (RFC 2018); all other options, CWR and ECE are dropped. The data is
+/// moved, so that it takes no memory.
 pub fn to_client(
+    setup: &Setup,
+    seg: Segment,
+    forged: Num,
+    syn: &Record,
+    opened: &Record,
+    flow: &Flow,
+) -> Segment
+    requires syn { IsTrue (is_syn syn.now) }
+    requires opened { IsTrue (is_open opened.now) }
+    ensures segment { result ≡ to_client_segment setup.now seg forged.0 syn.now opened.now flow.now }
+    ensures goes { GoesToClient setup.now seg forged.0 syn.now opened.now flow.now result }
+{
+    client_bound(setup, seg, forged, syn, opened, flow)
+}
+
+#[tactic(auto, unfolding(crate::specs::Translation::to_client_segment))]
+fn client_bound(
     setup: &Setup,
     seg: Segment,
     forged: Num,
@@ -118,6 +163,7 @@ pub fn to_client(
     } else {
         Num(0)
     };
+    let blocks = sack_opt::to_client(&seg.head.options.sack);
     Segment {
         source: service.address,
         target: flow.address,
@@ -128,7 +174,7 @@ pub fn to_client(
             ack,
             flags: without_congestion(seg.head.flags),
             window: restate(seg.head.window, by.server_gives, by.client_reads),
-            options: Options::none(),
+            options: passed_options(syn, opened, blocks),
             ..seg.head
         },
         body: seg.body,

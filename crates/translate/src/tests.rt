@@ -5,7 +5,7 @@ use crate::{to_client, to_client_numbers, to_server, to_server_numbers, translat
 use flow_id::Flow;
 use flow_record::Record;
 use rule_table::{Choices, Rule, Server, Service, Setup, Sizes};
-use seq_space::Num;
+use seq_space::{Blocks, Num};
 use std::alloc::{AllocError, Global};
 use std::test::Fail;
 use tcp_segment::{ACK, Bytes, Head, Options, PSH, RST, Segment, URG, write};
@@ -224,6 +224,58 @@ fn windows_are_told_as_they_are_read(rt: HostRuntime) -> Result<(), Fail> {
         seg.head.window = given;
         let sent = to_client(&setup, seg, Num(5000), &syn, &opened, &CLIENT);
         assert_eq!(rt; sent.head.window, to_the_client);
+    }
+    Ok(())
+}
+
+/// A Syn and an Open of ends that take selective acknowledgments, or do not.
+fn permitting(syn: bool, opened: bool) -> (Record, Record)
+    ensures syn { IsTrue (is_syn result.0) }
+    ensures opened { IsTrue (is_open result.1) }
+    ensures server { open_server result.1 ≡ 0 }
+{
+    let syn = Record::Syn {
+        number: Num(1000),
+        mss: 1460,
+        window: 64240,
+        scale: None,
+        sack: syn,
+    };
+    let opened = Record::Open {
+        server: 0,
+        port: 1027,
+        number: Num(9000),
+        scale: None,
+        sack: opened,
+    };
+    (syn, opened)
+}
+
+#[test]
+fn blocks_go_where_both_ends_take_them(rt: HostRuntime) -> Result<(), Fail> {
+    let setup = setup(rt.alloc())?;
+    let none = Options::none();
+    let mut taken = Blocks::none();
+    taken.push((Num(5101), Num(5301)));
+    let mut moved = Blocks::none();
+    moved.push((Num(9101), Num(9301)));
+    for (by_client, by_server, to_the_server, to_the_client) in [
+        (true, true, moved, taken),
+        (true, false, none.sack, none.sack),
+        (false, true, none.sack, none.sack),
+        (false, false, none.sack, none.sack),
+    ] {
+        let (syn, opened) = permitting(by_client, by_server);
+        let mut seg = from_client(rt.alloc(), 5101, ACK);
+        seg.head.options.sack = taken;
+        seg.head.options.mss = Some(1460);
+        let sent = to_server(&setup, seg, Num(5000), &syn, &opened);
+        assert_eq!(rt; sent.head.options.mss, None);
+        assert_eq!(rt; sent.head.options.sack.as_slice(), to_the_server.as_slice());
+        let mut seg = from_client(rt.alloc(), 5101, ACK);
+        seg.head.options.sack = taken;
+        let sent = to_client(&setup, seg, Num(5000), &syn, &opened, &CLIENT);
+        assert_eq!(rt; sent.head.options.sack.as_slice(), to_the_client.as_slice());
     }
     Ok(())
 }
