@@ -30,6 +30,7 @@ pub mod Rests
 pub mod Sets
 pub mod Settles
 pub mod Settlings
+pub mod ShortOuts
 pub mod Shown
 pub mod Spares
 pub mod Stands

@@ -2,6 +2,7 @@ pub mod Bench
 pub mod Blocks
 pub mod Calls
 pub mod Desks
+pub mod Fitting
 pub mod Forwarding
 pub mod Histories
 pub mod Incoming

@@ -5,7 +5,7 @@ ghost use Rattle.bench.specs.Inputs.{IsInputs};
 ghost use Rattle.plain_run.specs.Benches.{opened};
 ghost use Rattle.plain_run.specs.Fold.{block_of};
 ghost use Rattle.plain_run.specs.Made.{IsMadeAfter};
-ghost use Rattle.plain_run.specs.Outs.{IsShort};
+ghost use Rattle.bench.specs.Fitting.{IsShort};
 ghost use Rattle.plain_run.specs.UnderWay.{IsRunOf};
 
 use crate::benches::open_benches;

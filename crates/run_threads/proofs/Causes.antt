@@ -29,7 +29,7 @@ use Rattle.run_threads.specs.Due.{is_due}
 use Rattle.run_threads.specs.Handling.{IsHandled}
 use Rattle.run_threads.specs.Items.{IsTurn, IsOwn, instance_of, owner_by, owner}
 use Rattle.run_threads.specs.Laws.{IsCaused, HasCause}
-use Rattle.run_threads.specs.Outs.{IsTableReply}
+use Rattle.bench.specs.Fitting.{IsTableReply}
 use Rattle.run_threads.specs.Run.{IsThreadRun}
 use Rattle.run_threads.specs.Outcomes.{OutcomeView}
 use Rattle.run_threads.proofs.Telling.{AreTableReplies, split, shard_for, EachTold, run_told}

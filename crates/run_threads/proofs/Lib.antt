@@ -14,7 +14,6 @@ pub mod Pool
 pub mod Replays
 pub mod Scripts
 pub mod Sending
-pub mod ShortOuts
 pub mod ShortReplies
 pub mod Taken
 pub mod Tales

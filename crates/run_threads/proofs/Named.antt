@@ -1,5 +1,5 @@
 -- Each call of a worker's seat is one for its items.
-use Rattle.std.proofs.Common.{◌≡◌, ℕ, zero, suc, ◌+◌, ◌%◌, ◌<◌, ◌≤◌, List, [], ◌∷◌, ◌++◌, length, map, replicate, Bool, true, false, true≢false, Option, Some, None, nat_eq, if◌then◌else◌, eq-eqb, eqb-true, ne_eqb, refl, sym, ◌∙◌, ap, subst, arith, ⊎_elim, Contains}
+use Rattle.std.proofs.Common.{◌≡◌, ℕ, zero, suc, ◌+◌, ◌%◌, ◌<◌, List, [], ◌∷◌, ◌++◌, map, replicate, Bool, true, false, true≢false, Option, Some, None, nat_eq, if◌then◌else◌, eq-eqb, eqb-true, ne_eqb, refl, sym, ◌∙◌, ap, subst, arith, ⊎_elim, Contains}
 use Rattle.std.specs.Prelude.{slice_get, slice_index_or, ◌==◌, ◌&&◌}
 use Rattle.std.specs.List.{AllByRecursion, filter, flat_map, range_with_len}
 use Rattle.std.proofs.lemmas.Bool.{false≢true}
@@ -7,6 +7,7 @@ use Rattle.std.proofs.lemmas.List.{map-append}
 use Rattle.seen_lock.specs.declared.object.Entry.{Entry}
 use Rattle.seen_lock.specs.Histories.{calls_by}
 use Rattle.seen_lock.proofs.SeatLemmas.{head_there, contains_cases}
+use Rattle.bench.specs.Fitting.{FitsAgain}
 use Rattle.bench.specs.Bench.{BenchState, served}
 use Rattle.bench.specs.Blocks.{CallAt, history, fail_at, crash_of, crash_after, handling_calls, most_steps, limit_of}
 use Rattle.bench.specs.Histories.{opening}
@@ -168,7 +169,7 @@ module _ (inputs : Inputs) (w g : ℕ) where
       later reply.Noted ends ih = subst (λ l. Named (calls_in l)) (sym ends) tt
 
   module _ (item : ℕ) (f : Frame) (there : slice_get (capture_of inputs.trace).frames item ≡ Some f) where
-    module _ (a : Aim) (segment : Segment) (short : length segment.body ≤ 65495) where
+    module _ (a : Aim) (segment : Segment) (short : FitsAgain segment) where
       abbrev IsHere : ℕ → Type 0
       IsHere own = prepared_of inputs item f ≡ Work a segment w own
 

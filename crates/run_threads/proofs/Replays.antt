@@ -1,13 +1,12 @@
 -- What the test that replays a history wants: each of its calls may be made, and what is sent is short.
-use Rattle.std.proofs.Common.{◌≡◌, ℕ, zero, suc, ◌<◌, ◌≤◌, Bool, true, false, is_some, if◌then◌else◌, List, [], ◌∷◌, length, map, get_or, sym, ◌∙◌, ap, subst, arith}
+use Rattle.std.proofs.Common.{◌≡◌, ℕ, zero, suc, ◌<◌, ◌≤◌, List, [], ◌∷◌, length, map, get_or, sym, ◌∙◌, ap, subst, arith}
 use Rattle.std.specs.Prelude.{slice_index_or}
 use Rattle.seen_lock.specs.declared.object.Entry.{Entry}
 use Rattle.bench.specs.Calls.{IsCall, AreCalls}
 use Rattle.bench.specs.declared.call.Call.{Call}
 use Rattle.rule_table.specs.Setups.{SetupView}
-use Rattle.tcp_segment.specs.Written.{written_length}
-use Rattle.tcp_segment.proofs.Sums.{short-area}
-use Rattle.tcp_segment.specs.declared.options.Options.{Options}
+use Rattle.bench.proofs.ShortOuts.{short-area}
+use Rattle.tcp_segment.specs.Written.{FitsPacket}
 use Rattle.tcp_segment.specs.declared.segment.Head.{Head}
 
 call_at : (setup : SetupView) (shard : ℕ) (history : List (Entry Call)) (k : ℕ) (d : Entry Call) → AreCalls setup shard (map (λ (e : Entry Call). e.call) history) → k < length history
@@ -34,5 +33,5 @@ legal_at xs ys x f setup k history within same is history_is all =
     subst (λ h. AreCalls setup k (map (λ (e : Entry Call). e.call) h))
     (mapped f xs k x (subst (λ zs. k < length zs) same within) (subst (λ zs. x ≡ get_or zs k x) same is) ∙ sym history_is) (all (f x))
 
-pub short : (h : Head) (n : ℕ) → n ≤ 1460 → written_length h n ≤ 65515
-short h n few = omega (arith, short-area h.options, few)
+pub short : (h : Head) (n : ℕ) → h.options.sack ≡ [] → n ≤ 1460 → FitsPacket h n
+short h n none few = record { area = omega (arith, short-area h.options none); size = omega (arith, short-area h.options none, few) }

@@ -23,7 +23,7 @@ use Rattle.script_text.specs.Laws.{AssignedIsLiving}
 use Rattle.tcp_segment.specs.declared.segment.Segment.{Segment}
 use Rattle.run_threads.specs.Answered.{Answer, replies_in}
 use Rattle.run_threads.specs.Items.{IsTurn, IsOwn, owner}
-use Rattle.run_threads.specs.Outs.{IsShort, IsTableReply, IsSent}
+use Rattle.bench.specs.Fitting.{IsShort, IsTableReply, IsSent}
 use Rattle.run_threads.specs.Run.{outs_of, IsThreadRun}
 use Rattle.run_threads.specs.Outcomes.{OutcomeView}
 use Rattle.run_threads.proofs.Telling.{AreTableReplies, split, shard_for, crash_in, EachTold, run_told}

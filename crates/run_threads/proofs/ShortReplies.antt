@@ -1,6 +1,6 @@
 -- Over every history whose takes fit packets, what a bench is answered sends what fits packets, with a verdict of the handling
 -- table.
-use Rattle.std.proofs.Common.{◌≡◌, ℕ, zero, suc, ◌≤◌, Option, Some, None, List, [], ◌∷◌, ◌++◌, length, replicate, Bool, true, false, nat_eq, if◌then◌else◌, subst, arith}
+use Rattle.std.proofs.Common.{◌≡◌, ℕ, zero, suc, Option, Some, None, List, [], ◌∷◌, ◌++◌, replicate, Bool, true, false, nat_eq, if◌then◌else◌, subst}
 use Rattle.std.specs.Prelude.{slice_set}
 use Rattle.std.specs.List.{AllByRecursion}
 use Rattle.seen_lock.specs.declared.object.Entry.{Entry}
@@ -23,20 +23,20 @@ use Rattle.replica_cell.specs.declared.walk.Walk.{Walk}
 use Rattle.rule_table.specs.Setups.{SetupView}
 use Rattle.tcp_segment.specs.declared.segment.Segment.{Segment}
 use Rattle.run_threads.specs.Answered.{Answer, answered}
-use Rattle.run_threads.specs.Outs.{IsTableReply}
-use Rattle.run_threads.proofs.ShortOuts.{IsShortNext, move_short}
+use Rattle.bench.specs.Fitting.{FitsAgain, IsShort, IsTableReply}
+use Rattle.bench.proofs.ShortOuts.{IsShortNext, move_short, sends_short}
 
 -- a job whose segment came in with a packet
 abbrev IsShortJob : Option JobState → Type 0
 IsShortJob None = Unit {0}
-IsShortJob (Some job) = length job.segment.body ≤ 65495
+IsShortJob (Some job) = FitsAgain job.segment
 
 -- .. so are all jobs at these desks
 abbrev AreShortJobs : List Desk → Type 0
 AreShortJobs desks = (i : ℕ) → IsShortJob (job_at desks i)
 
 abbrev pub IsShortCall : Call → Type 0
-IsShortCall (Take i item a segment) = length segment.body ≤ 65495
+IsShortCall (Take i item a segment) = FitsAgain segment
 IsShortCall (Step i) = Unit {0}
 IsShortCall (Crash i) = Unit {0}
 IsShortCall (Fail place) = Unit {0}
@@ -48,28 +48,25 @@ set_jobs (d ∷ desks) zero desk all one (suc j) = all (suc j)
 set_jobs (d ∷ desks) (suc i) desk all one zero = all zero
 set_jobs (d ∷ desks) (suc i) desk all one (suc j) = set_jobs desks i desk (λ k. all (suc k)) one j
 
-job_short : (item : ℕ) (a : Aim) (segment : Segment) (answers : List AnswerOf) (n : Next) → length segment.body ≤ 65495 → IsShortJob (job_by item a segment answers n)
+job_short : (item : ℕ) (a : Aim) (segment : Segment) (answers : List AnswerOf) (n : Next) → FitsAgain segment → IsShortJob (job_by item a segment answers n)
 job_short item a segment answers (next.Ask ask) short = short
 job_short item a segment answers (next.End verdict outs) short = tt
 
-reply_short : (n : Next) → IsShortNext 65495 n → IsTableReply (reply_by n)
+reply_short : (n : Next) → IsShortNext IsShort n → IsTableReply (reply_by n)
 reply_short (next.Ask ask) short = tt
 reply_short (next.End verdict outs) short = short
-
-wide : 65495 ≤ 65495
-wide = omega arith
 
 -- the job at a desk came in so, and the reply is such a one
 abbrev IsShortTo : Desk × Reply → Type 0
 IsShortTo at = IsShortJob at.0.job × IsTableReply at.1
 
 module _ (setup : SetupView) (i : ℕ) where
-  moved_short : (job : JobState) (a : AnswerOf) (desk : Desk) → length job.segment.body ≤ 65495 → IsShortTo (moved setup i job a desk)
+  moved_short : (job : JobState) (a : AnswerOf) (desk : Desk) → FitsAgain job.segment → IsShortTo (moved setup i job a desk)
   moved_short job a desk short =
       let answers = job.answers ++ a ∷ [] in
       let bytes = held_by (flow_by job.aim job.answers) desk.held in
       let n = (next_move setup i job.aim job.segment answers bytes).next in
-      (job_short job.item job.aim job.segment answers n short, reply_short n (move_short 65495 wide setup i job.segment short bytes job.aim answers))
+      (job_short job.item job.aim job.segment answers n short, reply_short n (move_short FitsAgain IsShort sends_short setup i job.segment short bytes job.aim answers))
 
   turned_short : (at : Desk × Reply) (turn : JobState × Known) → turn_of setup at.0 ≡ Some turn → IsShortTo at → IsShortTo (turned setup i at.0 turn)
   turned_short at turn is short = moved_short turn.0 (Decided turn.1.item) (used at.0 turn.1.flow) (subst IsShortJob (turn_is setup at.0 turn is) short.0)
@@ -77,12 +74,12 @@ module _ (setup : SetupView) (i : ℕ) where
   settled_short : (at : Desk × Reply) → IsShortTo at → IsShortTo (settle setup i at)
   settled_short at short = settle_keeps setup i IsShortTo turned_short at short
 
-  taken_short : (item : ℕ) (a : Aim) (segment : Segment) (desk : Desk) → length segment.body ≤ 65495 → IsShortTo (taken setup i item a segment desk)
+  taken_short : (item : ℕ) (a : Aim) (segment : Segment) (desk : Desk) → FitsAgain segment → IsShortTo (taken setup i item a segment desk)
   taken_short item a segment desk short =
       let n = (next_move setup i a segment [] []).next in
-      settled_short (begun setup i item a segment desk) (job_short item a segment [] n short, reply_short n (move_short 65495 wide setup i segment short [] a []))
+      settled_short (begun setup i item a segment desk) (job_short item a segment [] n short, reply_short n (move_short FitsAgain IsShort sends_short setup i segment short [] a []))
 
-  stepped_short : (job : JobState) (desk : Desk) (walk : Walk) (o : Option AnswerOf) → length job.segment.body ≤ 65495 → IsShortTo (stepped_by setup i job desk walk o)
+  stepped_short : (job : JobState) (desk : Desk) (walk : Walk) (o : Option AnswerOf) → FitsAgain job.segment → IsShortTo (stepped_by setup i job desk walk o)
   stepped_short job desk walk None short = (short, tt)
   stepped_short job desk walk (Some a) short = settled_short (moved setup i job a desk) (moved_short job a desk short)
 

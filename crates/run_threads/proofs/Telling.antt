@@ -27,7 +27,7 @@ use Rattle.run_threads.specs.Answered.{Answer, answered}
 use Rattle.run_threads.specs.Due.{is_due}
 use Rattle.run_threads.specs.Items.{IsOwn, IsDone, owner}
 use Rattle.run_threads.specs.Laws.{IsNamed}
-use Rattle.run_threads.specs.Outs.{IsTableReply}
+use Rattle.bench.specs.Fitting.{IsTableReply}
 use Rattle.run_threads.specs.Run.{told_by, IsThreadRun}
 use Rattle.run_threads.specs.Work.{AreItems}
 use Rattle.run_threads.specs.Outcomes.{OutcomeView}

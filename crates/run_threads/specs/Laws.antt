@@ -1,9 +1,10 @@
 -- What the calls of a run's seats are for, and what its journal determines.
-use Rattle.std.specs.Prelude.{◌≡◌, ◌⊎◌, ℕ, ◌+◌, ◌%◌, ◌<◌, ◌≤◌, Contains, List, Some, None, IsSome, Ok, length, slice_get, slice_index_or}
+use Rattle.std.specs.Prelude.{◌≡◌, ◌⊎◌, ℕ, ◌+◌, ◌%◌, ◌<◌, Contains, List, Some, None, IsSome, Ok, slice_get, slice_index_or}
 use Rattle.std.specs.List.{AllByRecursion}
 use Rattle.seen_lock.specs.declared.object.Entry.{Entry}
 use Rattle.seen_lock.specs.Histories.{calls_by}
 use Rattle.bench.specs.Blocks.{crash_after, IsTold}
+use Rattle.bench.specs.Fitting.{FitsAgain}
 use Rattle.bench.specs.Inputs.{IsInputs}
 use Rattle.bench.specs.Prepared.{prepared_of}
 use Rattle.bench.specs.declared.call.Call.{Call}
@@ -33,7 +34,7 @@ pub record IsOwnTake (inputs : Inputs) (worker shard instance item : ℕ) (aim :
   pub frame : Frame
   pub is_there : slice_get (capture_of inputs.trace).frames item ≡ Some frame
   pub work : prepared_of inputs item frame ≡ Work aim segment instance shard
-  pub short : length segment.body ≤ 65495
+  pub short : FitsAgain segment
 
 -- A cell that a worker lets fail on a shard: the script has the replica at that place fail before a record whose number modulo
 -- the instances is the worker's.

@@ -5,7 +5,6 @@ pub mod Handling
 pub mod Items
 pub mod Laws
 pub mod Outcomes
-pub mod Outs
 pub mod Owners
 pub mod Pool
 pub mod Run

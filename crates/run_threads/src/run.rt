@@ -2,7 +2,7 @@
 ghost use Rattle.std.specs.Prelude.{◌≡◌, ◌≤◌, ◌<◌, ◌+◌, ◌*◌, ◌^◌, ℕ, All, length, map, IfOk, OnOk};
 ghost use Rattle.std.specs.List.{AllByRecursion, filter};
 ghost use Rattle.run_threads.specs.Due.{due_at, is_due};
-ghost use Rattle.run_threads.specs.Outs.{IsSent};
+ghost use Rattle.bench.specs.Fitting.{IsSent};
 ghost use Rattle.run_threads.specs.Owners.{AreOwners};
 ghost use Rattle.run_threads.specs.Run.{AreDone, IsThreadRun};
 ghost use Rattle.run_threads.specs.Pool.{AreSeats, JoinsFrom, AreJoined, AllIn, AreHistories, AreLocks, AreFresh, AreCrews, AreBacks, IsBackOf, MayServe, IsSplit};

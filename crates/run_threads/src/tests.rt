@@ -75,7 +75,9 @@ fn shop(alloc: Global, instances: u16) -> Result<Setup, AllocError>
 
 /// Adds the packet of a segment, where it is short.
 #[tactic(auto, using(crate::proofs::Replays::short))]
-fn add_segment(packets: &mut Vec<u8>, segment: &Segment) -> Result<(), Fail> {
+fn add_segment(packets: &mut Vec<u8>, segment: &Segment) -> Result<(), Fail>
+    requires { segment.now.head.options.sack ≡ [] }
+{
     if segment.body.as_slice().len() > 1460 {
         return Err("too much data".into());
     }
