@@ -13,7 +13,8 @@ use Rattle.seq_space.specs.declared.Num.{Num}
 use Rattle.tcp_end.specs.Streams.{IsSliceAt}
 use Rattle.tcp_segment.specs.Flags.{has_fin, has_syn, has_rst, has_ack}
 use Rattle.tcp_segment.specs.declared.segment.Segment.{Segment}
-use Rattle.translate.specs.Translation.{moved, GoesToClient}
+use Rattle.sack_opt.specs.Moves.{moved}
+use Rattle.translate.specs.Translation.{GoesToClient}
 use Rattle.translate.proofs.Numbers.{keeps_position}
 use Rattle.world_model.specs.declared.at.At.TheVariants.{Server}
 use Rattle.world_model.specs.declared.client.ClientSpec.{ClientSpec}

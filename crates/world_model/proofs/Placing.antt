@@ -21,7 +21,8 @@ use Rattle.server_hand.specs.Opening.{OpensTo, StandsAt}
 use Rattle.tcp_end.specs.Streams.{IsPrefix, IsSliceAt}
 use Rattle.tcp_segment.specs.Flags.{has_fin, has_syn, has_rst, has_ack}
 use Rattle.tcp_segment.specs.declared.segment.Segment.{Segment}
-use Rattle.translate.specs.Translation.{moved, GoesToServer}
+use Rattle.sack_opt.specs.Moves.{moved}
+use Rattle.translate.specs.Translation.{GoesToServer}
 use Rattle.translate.proofs.Numbers.{keeps_position}
 use Rattle.bench.specs.Histories.{Decides}
 use Rattle.bench.proofs.Fits.{decided_fit}

@@ -77,7 +77,7 @@ rest_of r = record { window = 64240; urgent = 0; options = r.options }
 -- the SYN; an acknowledgment; the request; the SYN-ACK; an acknowledgment; the answer; an acknowledgment; the close of the
 -- server and of the client, and the last acknowledgment
 abbrev pub syn : Row
-syn = row here 0 2 1000 0 [] (record { mss = Some 1460; scale = Some 7; sack_permitted = true }) 3
+syn = row here 0 2 1000 0 [] (record no_options { mss = Some 1460; scale = Some 7; sack_permitted = true }) 3
 
 abbrev pub known : Row
 known = row here 1 16 1001 1623089033 [] no_options 4
