@@ -16,7 +16,7 @@ use Rattle.rule_table.specs.Setups.{IsSetup}
 use Rattle.run_threads.specs.Answered.{Answer}
 use Rattle.run_threads.specs.Items.{IsOwn}
 use Rattle.run_threads.specs.Outcomes.{OutcomeView}
-use Rattle.run_threads.specs.Outs.{IsSent}
+use Rattle.bench.specs.Fitting.{IsSent}
 use Rattle.run_threads.specs.Run.{outs_of, IsThreadRun}
 use Rattle.run_threads.proofs.Telling.{EachTold, run_told}
 use Rattle.script_text.specs.Laws.{AssignedIsLiving}

@@ -5,7 +5,7 @@ use Rattle.std.specs.Option.{option_map_or}
 use Rattle.inplace.specs.Packets.{HoldsSegment}
 use Rattle.pcap_file.specs.Ethernet.{network_of}
 use Rattle.pcap_file.specs.declared.capture.Frame.{Frame}
-use Rattle.run_threads.specs.Outs.{IsSent}
+use Rattle.bench.specs.Fitting.{IsSent}
 use Rattle.pcap_file.specs.Written.{header_bytes, record_bytes}
 use Rattle.tcp_segment.specs.Written.{packet_bytes}
 use Rattle.tcp_segment.specs.declared.segment.Segment.{Segment}

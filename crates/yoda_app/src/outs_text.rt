@@ -3,7 +3,7 @@ ghost use Rattle.std.specs.Prelude.{◌≡◌, ◌≤◌, ◌+◌, ◌++◌, [],
 ghost use Rattle.std.specs.List.{AllByRecursion};
 ghost use Rattle.inplace.specs.Packets.{HoldsSegment};
 ghost use Rattle.pcap_file.specs.Written.{header_bytes, record_bytes};
-ghost use Rattle.plain_run.specs.Outs.{IsShort};
+ghost use Rattle.bench.specs.Fitting.{IsShort};
 ghost use Rattle.tcp_segment.specs.Written.{packet_bytes};
 ghost use Rattle.yoda_app.specs.Outs.{AreMadeOf, frame_records, packet_in};
 ghost use Rattle.yoda_app.specs.Spliced.{IsSpliced, text_of};

@@ -1,5 +1,8 @@
+ghost use Rattle.std.specs.Prelude.{◌≤◌};
+ghost use Rattle.tcp_segment.specs.Written.{area_length};
+
 use super::*;
-use seq_space::Num;
+use seq_space::{Blocks, Num};
 use shelf::MemoryShelf;
 use std::test::Fail;
 use tcp_segment::{ACK, Bytes, Head, Options, PSH, SYN as OPEN, Segment, write};
@@ -218,22 +221,48 @@ fn left_of<R: Threads + Wait + Sync>(
 }
 
 /// The options of a segment with these flags.
-fn options_of(who: Who, flags: u8) -> Options {
+fn options_of(who: Who, flags: u8) -> Options
+    ensures { area_length result ≤ 12 }
+{
     if flags & OPEN == 0 {
         return Options::none();
     }
-    Options {
-        mss: Some(1460),
-        scale: match who {
-            Who::Client => Some(7),
-            Who::Server => None,
+    match who {
+        Who::Client => Options {
+            mss: Some(1460),
+            scale: Some(7),
+            sack_permitted: true,
+            ..Options::none()
         },
+        Who::Server => Options {
+            mss: Some(1460),
+            ..Options::none()
+        },
+    }
+}
+
+/// A block of selective acknowledgments, and no other option.
+fn block_of(left: u32, right: u32) -> Options
+    ensures { area_length result ≤ 12 }
+{
+    let mut sack = Blocks::none();
+    sack.push((Num(left), Num(right)));
+    Options {
+        sack,
         ..Options::none()
     }
 }
 
-/// The packet of a segment. One with SYN gives a maximum segment size of 1460 bytes, and the client's a scale of 7.
+/// The packet of a segment. One with SYN gives a maximum segment size of 1460 bytes, and the client's a scale of 7 and the
+/// leave for selective acknowledgments.
 fn packet_of(alloc: Global, sent: &Sent<'_>) -> Result<Vec<u8>, Fail> {
+    packet_with(alloc, sent, options_of(sent.0, sent.1))
+}
+
+/// The packet of a segment with these options.
+fn packet_with(alloc: Global, sent: &Sent<'_>, options: Options) -> Result<Vec<u8>, Fail>
+    requires { area_length options ≤ 12 }
+{
     let (who, flags, seq, ack, body) = *sent;
     if body.len() > 1460 {
         return Err("too much data".into());
@@ -250,7 +279,7 @@ fn packet_of(alloc: Global, sent: &Sent<'_>) -> Result<Vec<u8>, Fail> {
         flags,
         window: 64240,
         urgent: 0,
-        options: options_of(who, flags),
+        options,
     };
     let segment = Segment {
         source,

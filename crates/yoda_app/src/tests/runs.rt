@@ -1,3 +1,6 @@
+ghost use Rattle.std.specs.Prelude.{◌≤◌};
+ghost use Rattle.tcp_segment.specs.Written.{area_length};
+
 use super::*;
 use tcp_segment::{FIN, RST};
 
@@ -175,13 +178,46 @@ fn segments_are_handled_by_the_table(rt: HostRuntime) -> Result<(), Fail> {
 }
 
 #[test]
-fn a_scale_is_answered_and_handed_on(rt: HostRuntime) -> Result<(), Fail> {
+fn options_are_answered_and_handed_on(rt: HostRuntime) -> Result<(), Fail> {
     let alloc = rt.alloc();
     for segments in [&[OPENING][..], &[OPENING, REQUEST]] {
         let trace = trace_of(alloc, segments)?;
         let sent = left_of(&rt, alloc, PLAIN, &trace, "out.pcap")?;
         // The last that is sent is a SYN-ACK to the client, or the SYN to the server.
-        assert!(rt; sent.ends_with(&[2, 4, 5, 0xb4, 1, 3, 3, 7]));
+        assert!(rt; sent.ends_with(&[2, 4, 5, 0xb4, 1, 1, 4, 2, 1, 3, 3, 7]));
+    }
+    Ok(())
+}
+
+/// The options of the server's SYN-ACK, which permits selective acknowledgments or not.
+fn accepting_options(permits: bool) -> Options
+    ensures { area_length result ≤ 12 }
+{
+    Options {
+        mss: Some(1460),
+        sack_permitted: permits,
+        ..Options::none()
+    }
+}
+
+#[test]
+fn a_block_goes_on_where_both_ends_permit_it(rt: HostRuntime) -> Result<(), Fail> {
+    let alloc = rt.alloc();
+    // The place of the data's offset, counted from the end of the last packet, and that offset.
+    for (permits, back, offset) in [(true, 20, 0x80), (false, 8, 0x50)] {
+        let mut trace = trace_of(alloc, &[OPENING, REQUEST])?;
+        let accepting = packet_with(alloc, &ACCEPTING, accepting_options(permits))?;
+        add_record(&mut trace, 0, &accepting)?;
+        let acknowledging = (Who::Client, ACK, 1070, FORGED + 201, [].as_slice());
+        let block = block_of(FORGED + 301, FORGED + 401);
+        add_record(&mut trace, 0, &packet_with(alloc, &acknowledging, block)?)?;
+        let sent = left_of(&rt, alloc, PLAIN, &trace, "out.pcap")?;
+        assert_eq!(rt;
+            sent.ends_with(&[1, 1, 5, 10, 0, 1, 0x12, 0x9d, 0, 1, 0x13, 1]),
+            permits
+        );
+        let place = sent.len().saturating_sub(back);
+        assert_eq!(rt; sent.get(place), Some(&offset));
     }
     Ok(())
 }

@@ -1,7 +1,7 @@
 use Rattle.std.proofs.Common.{◌≡◌, ◌++◌, length}
 use Rattle.std.specs.Prelude.{slice_range}
 use Rattle.std.specs.List.{AllByRecursion}
-use Rattle.plain_run.specs.Outs.{IsShort}
+use Rattle.bench.specs.Fitting.{IsShort}
 use Rattle.yoda_app.specs.Outs.{AreMadeOf, frame_records}
 use Rattle.yoda_app.specs.Spliced.{IsSpliced, text_of}
 use Rattle.yoda_app.proofs.outs_text.add_outs.Given as goal

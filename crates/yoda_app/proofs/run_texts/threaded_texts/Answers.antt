@@ -1,7 +1,7 @@
 use Rattle.std.proofs.Common.{ℕ, [], ◌∷◌, subst}
 use Rattle.std.specs.List.{AllByRecursion}
 use Rattle.std.specs.Prelude.{map}
-use Rattle.run_threads.specs.Outs.{IsSent}
+use Rattle.bench.specs.Fitting.{IsSent}
 use Rattle.yoda_app.proofs.ScriptRead.{script_read}
 use Rattle.yoda_app.proofs.SentFrom.{sent_from}
 use Rattle.yoda_app.specs.RunCommand.{calls_on}
