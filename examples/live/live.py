@@ -26,6 +26,7 @@ def words():
     for name, value in {"loss": 2, "repeat": 0, "delay": 0}.items():
         parser.add_argument(f"--{name}", type=float, default=value)
     parser.add_argument("--fail", type=int, nargs="*", default=[300, 1500])
+    parser.add_argument("--set", action="append", default=[])
     parser.add_argument("program")
     parser.add_argument("folder")
     return parser.parse_args()
@@ -43,14 +44,15 @@ def carry(network, balancer, client, seconds):
 def join(asked, rules, balancer):
     """Joins the clients and the servers through the balancer, until the clients have ended, by the network that it answers."""
     service, hosts = rules["service"]["address"], []
+    settings = ",".join(asked.set)
     try:
         for server in rules["server"]:
             address = server["address"]
-            hosts.append(Host(address, service, f"{HERE}/server.py", address, str(server["port"]), asked.folder))
+            hosts.append(Host(address, service, settings, f"{HERE}/server.py", address, str(server["port"]), asked.folder))
         for host in hosts:
             host.says()
         sizes = map(str, (asked.downloads, asked.uploads, asked.bytes, asked.seconds))
-        client = Host(CLIENT, service, f"{HERE}/client.py", service, *sizes, asked.folder)
+        client = Host(CLIENT, service, settings, f"{HERE}/client.py", service, *sizes, asked.folder)
         hosts.append(client)
         network = Network(hosts, asked.loss, asked.repeat, asked.delay, asked.seed)
         carry(network, balancer, client, asked.seconds)

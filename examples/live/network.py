@@ -15,11 +15,11 @@ IN, OUT = 0, 1
 class Host:
     """A Python program in a network namespace of its own, and the device by which its packets come and go."""
 
-    def __init__(self, address, service, *program):
+    def __init__(self, address, service, settings, *program):
         ours, theirs = socket.socketpair()
-        words = ["unshare", "--net", "python3", f"{HERE}/host.py", str(theirs.fileno()), address, service, "python3", *program]
+        words = ["unshare", "--net", "python3", f"{HERE}/host.py", str(theirs.fileno()), address, service, settings]
         self.process = subprocess.Popen(
-            words, stdin=subprocess.PIPE, stdout=subprocess.PIPE, pass_fds=[theirs.fileno()])
+            [*words, "python3", *program], stdin=subprocess.PIPE, stdout=subprocess.PIPE, pass_fds=[theirs.fileno()])
         theirs.close()
         with ours:
             devices = socket.recv_fds(ours, 16, 1)[1]
