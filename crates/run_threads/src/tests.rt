@@ -1,4 +1,4 @@
-ghost use Rattle.std.specs.Prelude.{◌≡◌, ◌≤◌, ◌<◌, length, map, None, IfOk, IfSome};
+ghost use Rattle.std.specs.Prelude.{◌≡◌, ◌≤◌, ◌<◌, [], length, map, None, IfOk, IfSome};
 ghost use Rattle.bench.specs.Calls.{IsCall, AreCalls};
 ghost use Rattle.bench.specs.Inputs.{IsInputs};
 ghost use Rattle.pcap_file.specs.Frames.{capture_of, left_of};
