@@ -1,11 +1,12 @@
 -- What the test that replays a history wants: each of its calls may be made, and what is sent is short.
-use Rattle.std.proofs.Common.{◌≡◌, ℕ, zero, suc, ◌<◌, ◌≤◌, List, [], ◌∷◌, length, map, get_or, sym, ◌∙◌, ap, subst, arith}
+use Rattle.std.proofs.Common.{◌≡◌, ℕ, zero, suc, ◌<◌, ◌≤◌, List, [], ◌∷◌, length, map, get_or, refl, sym, ◌∙◌, ap, subst, arith}
 use Rattle.std.specs.Prelude.{slice_index_or}
 use Rattle.seen_lock.specs.declared.object.Entry.{Entry}
 use Rattle.bench.specs.Calls.{IsCall, AreCalls}
 use Rattle.bench.specs.declared.call.Call.{Call}
 use Rattle.rule_table.specs.Setups.{SetupView}
 use Rattle.bench.proofs.ShortOuts.{short-area}
+use Rattle.seq_space.specs.declared.Num.{Num}
 use Rattle.tcp_segment.specs.Written.{FitsPacket}
 use Rattle.tcp_segment.specs.declared.segment.Head.{Head}
 
@@ -33,5 +34,11 @@ legal_at xs ys x f setup k history within same is history_is all =
     subst (λ h. AreCalls setup k (map (λ (e : Entry Call). e.call) h))
     (mapped f xs k x (subst (λ zs. k < length zs) same within) (subst (λ zs. x ≡ get_or zs k x) same is) ∙ sym history_is) (all (f x))
 
-pub short : (h : Head) (n : ℕ) → h.options.sack ≡ [] → n ≤ 1460 → FitsPacket h n
-short h n none few = record { area = omega (arith, short-area h.options none); size = omega (arith, short-area h.options none, few) }
+no_blocks : (blocks : List (Num × Num)) → length blocks ≡ 0 → blocks ≡ []
+no_blocks [] none = refl
+no_blocks (b ∷ blocks) none = absurd (omega (arith, none))
+
+pub short : (h : Head) (n : ℕ) → length h.options.sack ≡ 0 → n ≤ 1460 → FitsPacket h n
+short h n none few =
+    let area = short-area h.options (no_blocks h.options.sack none) in
+    record { area = omega (arith, area); size = omega (arith, area, few) }

@@ -1,4 +1,4 @@
-ghost use Rattle.std.specs.Prelude.{◌≡◌, ◌≤◌, ◌<◌, [], length, map, None, IfOk, IfSome};
+ghost use Rattle.std.specs.Prelude.{◌≡◌, ◌≤◌, ◌<◌, length, map, None, IfOk, IfSome};
 ghost use Rattle.bench.specs.Calls.{IsCall, AreCalls};
 ghost use Rattle.bench.specs.Inputs.{IsInputs};
 ghost use Rattle.pcap_file.specs.Frames.{capture_of, left_of};
@@ -73,12 +73,10 @@ fn shop(alloc: Global, instances: u16) -> Result<Setup, AllocError>
     Ok(Setup::make(sizes, service, servers, rules))
 }
 
-/// Adds the packet of a segment, where it is short.
+/// Adds the packet of a segment, where it is short and has no blocks.
 #[tactic(auto, using(crate::proofs::Replays::short))]
-fn add_segment(packets: &mut Vec<u8>, segment: &Segment) -> Result<(), Fail>
-    requires { segment.now.head.options.sack ≡ [] }
-{
-    if segment.body.as_slice().len() > 1460 {
+fn add_segment(packets: &mut Vec<u8>, segment: &Segment) -> Result<(), Fail> {
+    if segment.body.as_slice().len() > 1460 || !segment.head.options.sack.as_slice().is_empty() {
         return Err("too much data".into());
     }
     Ok(write(segment, packets)?)
