@@ -1,6 +1,7 @@
 ghost use Rattle.std.specs.Prelude.{◌≡◌, ◌<◌, length, IsTrue};
 ghost use Rattle.flow_record.specs.Records.{is_open, is_syn, open_server};
 ghost use Rattle.window_scale.specs.Windows.{AreShifts};
+ghost use Rattle.sack_opt.specs.Moves.{moved_blocks};
 ghost use Rattle.translate.specs.Translation.{GoesToClient, GoesToServer, both_permit, kept_flags, passed_options, shifts_between, to_client_segment, to_server_segment};
 
 use flow_id::Flow;
@@ -50,16 +51,34 @@ fn both_permit(syn: &Record, opened: &Record) -> bool
         && matches!(opened, Record::Open { sack: true, .. })
 }
 
-/// The options of a segment that is passed on: these blocks, where both ends of the flow take them.
-fn passed_options(syn: &Record, opened: &Record, blocks: Blocks) -> Options
-    ensures { result ≡ passed_options syn.now opened.now blocks }
+/// The options of a segment that goes on to the server: its blocks, moved, where both ends of the flow take them.
+fn options_to_server(
+    syn: &Record,
+    opened: &Record,
+    blocks: &Blocks,
+    forged: Num,
+    number: Num,
+) -> Options
+    ensures { result ≡ passed_options syn.now opened.now (moved_blocks forged.0 number.0 blocks.now) }
 {
+    if !both_permit(syn, opened) {
+        return Options::none();
+    }
     Options {
-        sack: if both_permit(syn, opened) {
-            blocks
-        } else {
-            Blocks::none()
-        },
+        sack: sack_opt::to_server(blocks, forged, number),
+        ..Options::none()
+    }
+}
+
+/// The options of a segment that goes on to the client: its blocks, where both ends of the flow take them.
+fn options_to_client(syn: &Record, opened: &Record, blocks: &Blocks) -> Options
+    ensures { result ≡ passed_options syn.now opened.now blocks.now }
+{
+    if !both_permit(syn, opened) {
+        return Options::none();
+    }
+    Options {
+        sack: sack_opt::to_client(blocks),
         ..Options::none()
     }
 }
@@ -103,7 +122,7 @@ fn server_bound(setup: &Setup, seg: Segment, forged: Num, syn: &Record, opened: 
     } else {
         Num(0)
     };
-    let blocks = sack_opt::to_server(&seg.head.options.sack, forged, number);
+    let options = options_to_server(syn, opened, &seg.head.options.sack, forged, number);
     Segment {
         source: setup.service().address,
         target: server.address,
@@ -113,7 +132,7 @@ fn server_bound(setup: &Setup, seg: Segment, forged: Num, syn: &Record, opened: 
             ack,
             flags: without_congestion(seg.head.flags),
             window: restate(seg.head.window, by.client_gives, by.server_reads),
-            options: passed_options(syn, opened, blocks),
+            options,
             ..seg.head
         },
         body: seg.body,
@@ -163,7 +182,7 @@ fn client_bound(
     } else {
         Num(0)
     };
-    let blocks = sack_opt::to_client(&seg.head.options.sack);
+    let options = options_to_client(syn, opened, &seg.head.options.sack);
     Segment {
         source: service.address,
         target: flow.address,
@@ -174,7 +193,7 @@ fn client_bound(
             ack,
             flags: without_congestion(seg.head.flags),
             window: restate(seg.head.window, by.server_gives, by.client_reads),
-            options: passed_options(syn, opened, blocks),
+            options,
             ..seg.head
         },
         body: seg.body,

@@ -11,6 +11,6 @@ pub returns-clause-room : goal.returns-clause-room
 returns-clause-room c =
     let room = area-room c.args.area.now c.in_ok-found.found (list-found c.args.area.now c.in_ok-found.found (sym c.in_ok-found.ensures)) in
     elim c.if-flags-eq1.branch [
-      | then-flags-eq1 w ↦ subst (λ (blocks : List (Num × Num)). sack_length blocks ≤ length c.args.area.now + 2) (sym (ap (λ (o : Options). o.sack) w.result-is ∙ w.none.ensures)) (omega arith)
+      | then-flags-eq1 w ↦ subst (λ (blocks : List (Num × Num)). sack_length blocks ≤ length c.args.area.now + 2) (sym (ap (λ (o : Options). o.sack) w.result-is ∙ w.none-then-flags-eq1.ensures)) (omega arith)
       | else-flags-eq1 w ↦ subst (λ (o : Options). sack_length o.sack ≤ length c.args.area.now + 2) (sym w.result-is) room
     ]
