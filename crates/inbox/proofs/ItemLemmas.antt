@@ -47,6 +47,12 @@ module _ {T : Type 0} where
   items-whole (Some y ∷ l) more ended = ap (λ (ys : List T). y ∷ ys) (items-whole l more ended)
   items-whole (None ∷ l) more ended = refl
 
+  -- the end stays where more is added
+  pub end-stays : (l more : List (Option T)) → has_end l ≡ true → has_end (l ++ more) ≡ true
+  end-stays [] more ended = absurd (true≢false (sym ended))
+  end-stays (Some y ∷ l) more ended = end-stays l more ended
+  end-stays (None ∷ l) more ended = refl
+
   all-items : (l : List (Option T)) → has_end l ≡ false → length (items_of l) ≡ length l
   all-items [] endless = refl
   all-items (Some y ∷ l) endless = ap suc (all-items l endless)

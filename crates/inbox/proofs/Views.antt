@@ -7,7 +7,7 @@ use Rattle.crossbeam_queue.specs.Fifo.{Held}
 use Rattle.inbox.specs.declared.rule.Known.{Known}
 use Rattle.inbox.specs.Inboxes.{GiverView, TakerView, WasFull, WasEmpty, IsGiven, GaveOnly, TookOnly, capacity_of}
 use Rattle.inbox.specs.Rule.{HasGiven, HasTaken, GivenByThen, TakenByThen, items_of, has_end, giver_view, taker_view}
-use Rattle.inbox.proofs.ItemLemmas.{IsPrefix-refl, items-snoc, endless-snoc, items-end, ended-snoc, items-prefix, items-whole, waiting-items, waiting-none}
+use Rattle.inbox.proofs.ItemLemmas.{IsPrefix-refl, items-snoc, endless-snoc, items-end, ended-snoc, items-prefix, items-whole, end-stays, waiting-items, waiting-none}
 
 module _ {T : Type 0} where
   -- ---- the giver
@@ -101,3 +101,7 @@ module _ {T : Type 0} where
 
   pub taken_whole : (k l m : Known T) (items : List (Option T)) (given : List T) → l.given ≡ k.taken ++ items → m.taken ≡ k.taken → items_of l.given ≡ given → has_end k.taken ≡ true → items_of m.taken ≡ given
   taken_whole k l m items given order same is ended = ap items_of same ∙ items-whole k.taken items ended ∙ ap items_of (sym order) ∙ is
+
+  -- .. and the giver gave the end that the taker took
+  pub taken_over : (k l : Known T) (items : List (Option T)) (over : Bool) → l.given ≡ k.taken ++ items → has_end l.given ≡ over → has_end k.taken ≡ true → over ≡ true
+  taken_over k l items over order is ended = sym is ∙ (ap has_end order ∙ end-stays k.taken items ended)

@@ -67,13 +67,14 @@ impl<T: Drop> Taker<T> {
     }
 
     /// Takes in the giver of its inbox, which gives no more: what was taken is a prefix of what that giver gave, and all
-    /// of it where the end was taken. It takes no memory.
+    /// of it where the end was taken, which that giver gave then. It takes no memory.
     pub fn take_in(&mut self, giver: Giver<T>)
         requires { giver.inbox ≡ self.old.inbox }
         ensures same { (self.new.inbox ≡ self.old.inbox) × (self.new.taken ≡ self.old.taken) × (self.new.ended ≡ self.old.ended) }
         ensures known { self.new.known_given ≡ giver.given }
         ensures prefix { IsPrefix self.new.taken giver.given }
         ensures whole { IsTrue self.new.ended → self.new.taken ≡ giver.given }
+        ensures over { IsTrue self.new.ended → IsTrue giver.ended }
     {
         self.queue.absorb::<Whole>(&mut self.pass, giver.pass);
         self.queue.learn_as::<Whole>(&mut self.pass);
