@@ -2,6 +2,7 @@ pub mod Asking
 pub mod AtOnce
 pub mod Begins
 pub mod Begun
+pub mod Captures
 pub mod Causes
 pub mod Chains
 pub mod Connections
