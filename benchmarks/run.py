@@ -1,7 +1,9 @@
 #!/usr/bin/env python3
 """`yoda run` beside `yoda plain` on forwarded traffic of a thousand flows over 64 shards, by the clock: with four
 instances and one, three and eight copies of each record, and with sixteen instances. A run in threads takes the time of
-several processors at once, so what is compared is how long each takes. The figures are kept in docs/BENCHMARKS.md."""
+several processors at once, so what is compared is how long each takes. Where the variable BEFORE names another program,
+its `run` is told too, in the same turns. The figures are kept in docs/BENCHMARKS.md."""
+import os
 import statistics
 import time
 
@@ -29,21 +31,25 @@ class Taken:
 
 
 def main():
-    yoda = measure.program()
-    print("| Instances | Copies | plain, s | run, s | run / plain | memory of run / capture | of plain |")
-    print("|---|---|---|---|---|---|---|")
+    yoda, before = measure.program(), os.environ.get("BEFORE")
+    print("| Instances | Copies | plain, s | run, s | run / plain | memory of run / capture | of plain |"
+          + (" before, s | run / before |" if before else ""))
+    print("|---|---|---|---|---|---|---|" + ("---|---|" if before else ""))
     for instances, copies in CASES:
         with measure.folder() as top:
             place = top / "made"
             capture = measure.make(place, "forwarded", MOST, "data=184", "shards=64", f"copies={copies}")
             measure.set_instances(place, instances)
             size = capture.stat().st_size
-            plain, run = Taken(), Taken()
+            plain, run, was = Taken(), Taken(), Taken()
             for _ in range(measure.RUNS):
                 plain.add([yoda, *measure.PLAIN], place)
                 run.add([yoda, *measure.RUN], place)
+                if before:
+                    was.add([before, *measure.RUN], place)
             print(f"| {instances} | {copies} | {plain.seconds:.3f} | {run.seconds:.3f} | {run.seconds / plain.seconds:.2f}"
-                  f" | {run.memory / size:.2f} | {plain.memory / size:.2f} |", flush=True)
+                  f" | {run.memory / size:.2f} | {plain.memory / size:.2f} |"
+                  + (f" {was.seconds:.3f} | {run.seconds / was.seconds:.2f} |" if before else ""), flush=True)
 
 
 if __name__ == "__main__":

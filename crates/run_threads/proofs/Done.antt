@@ -9,18 +9,18 @@ use Rattle.bench.specs.Histories.{opening}
 use Rattle.bench.specs.declared.call.Call.{Call}
 use Rattle.bench.specs.declared.input.inputs.Inputs.{Inputs}
 use Rattle.pcap_file.specs.Frames.{capture_of}
-use Rattle.pcap_file.specs.declared.capture.Frame.{Frame}
 use Rattle.rule_table.specs.Setups.{SetupView}
 use Rattle.run_threads.specs.Answered.{answered}
+use Rattle.run_threads.specs.Feeding.{own_numbers}
+use Rattle.run_threads.specs.Outcomes.{OutcomeView}
 use Rattle.run_threads.specs.Pool.{AreLocks, AreJoined, AllIn, AreHistories, IsHistory, Fits}
 use Rattle.run_threads.specs.Run.{AreDone}
 use Rattle.run_threads.specs.Seats.{BenchLock, BenchSeat}
-use Rattle.run_threads.specs.Work.{AreItems}
-use Rattle.run_threads.specs.declared.tale.Tale.{Tale}
+use Rattle.run_threads.specs.Served.{AreBlocks}
 use Rattle.run_threads.proofs.Closed.{legal_from}
 
-pub all_in : (inputs : Inputs) (frames : List Frame) (locks : List BenchLock) (first : List BenchSeat) (tales : List Tale) → AreLocks inputs.setup inputs.setup.shards locks → AreJoined inputs frames 0 locks first tales → AllIn inputs.setup.instances inputs.setup.shards locks first
-all_in inputs frames locks first tales are joined = record { locks_many = are.many; seats_many = joined.seats_many; each = joined.seats }
+pub all_in : (inputs : Inputs) (locks : List BenchLock) (first : List BenchSeat) (all : List (List (ℕ × OutcomeView))) → AreLocks inputs.setup inputs.setup.shards locks → AreJoined inputs 0 locks first all → AllIn inputs.setup.instances inputs.setup.shards locks first
+all_in inputs locks first all are joined = record { locks_many = are.many; seats_many = joined.seats_many; each = joined.seats }
 
 -- the element at a place that is there
 pub element : {X : Type 0} (xs : List X) (n : ℕ) → n < length xs → X
@@ -33,10 +33,10 @@ are_calls setup g b [] same here legal = tt
 are_calls setup g b (e ∷ history) same here legal =
     (subst (λ n. IsCall setup n e.call) here (subst (λ s. IsCall s b.shard e.call) same legal.0), are_calls setup g b history same here legal.1)
 
-pub are_done : (inputs : Inputs) (frames : List Frame) (locks : List BenchLock) (first : List BenchSeat) (tales : List Tale) (histories : List (List (Entry Call))) → frames ≡ (capture_of inputs.trace).frames
-    → AreLocks inputs.setup inputs.setup.shards locks → AreJoined inputs frames 0 locks first tales → AreHistories inputs.setup.instances inputs.setup.shards 0 first histories
-    → AreDone inputs tales histories
-are_done inputs frames locks first tales histories frames_are are joined closed =
+pub are_done : (inputs : Inputs) (locks : List BenchLock) (first : List BenchSeat) (all : List (List (ℕ × OutcomeView))) (histories : List (List (Entry Call))) → inputs.frames ≡ (capture_of inputs.trace).frames
+    → AreLocks inputs.setup inputs.setup.shards locks → AreJoined inputs 0 locks first all → AreHistories inputs.setup.instances inputs.setup.shards 0 first histories
+    → AreDone inputs all histories
+are_done inputs locks first all histories frames_are are joined closed =
     let many = joined.many in
     let shards = closed.many in
     let at : (g : ℕ) (h : List (Entry Call)) → slice_index_or histories (g - 0) h ≡ slice_index_or histories g h = λ g h. ap (λ k. slice_index_or histories k h) (let e : g - 0 ≡ g = omega arith in e) in record {
@@ -45,13 +45,14 @@ are_done inputs frames locks first tales histories frames_are are joined closed 
       workers = λ w d within.
           let t = joined.workers w d (omega arith) within in record {
             outcomes = t.outcomes;
-            tells = t.tells;
-            items = λ g h below.
+            made_is = t.made_is;
+            numbers_are = t.numbers_are ∙ ap (own_numbers inputs w 0) frames_are;
+            blocks = λ g h below.
                 let l = element locks g (subst (λ k. g < k) (sym are.many) below) in
                 let s = element first g (subst (λ k. g < k) (sym joined.seats_many) below) in
                 let history = slice_index_or histories g h in
-                subst (λ fs. AreItems inputs w 0 fs t.outcomes g (answered (w + 1) (opening inputs.setup g) history)) frames_are
-                (t.items g l s below history (subst (λ z. Fits (slice_index_or first g s) z) (at g h) (closed.each g s h (omega arith) below).fits));
+                subst (λ fs. AreBlocks inputs w 0 fs t.outcomes g (answered (w + 1) (opening inputs.setup g) history)) frames_are
+                (t.blocks g l s below history (subst (λ z. Fits (slice_index_or first g s) z) (at g h) (closed.each g s h (omega arith) below).fits));
           };
       nobody_else = λ n g h who below.
           let s = element first g (subst (λ k. g < k) (sym joined.seats_many) below) in

@@ -12,17 +12,16 @@ use Rattle.seen_lock.proofs.SeatLemmas.{head_there}
 use Rattle.bench.specs.Histories.{opening}
 use Rattle.bench.specs.declared.call.Call.{Call}
 use Rattle.bench.specs.declared.input.inputs.Inputs.{Inputs}
-use Rattle.pcap_file.specs.declared.capture.Frame.{Frame}
 use Rattle.run_threads.specs.Answered.{answered}
+use Rattle.run_threads.specs.Outcomes.{OutcomeView}
 use Rattle.run_threads.specs.Pool.{AreLocks, AreFresh, IsReturned, HasWorked, AreSeats, IsJoin, JoinsFrom, HasJoined, Fits, HasTold, AreJoined}
 use Rattle.run_threads.specs.Seats.{BenchLock, BenchSeat, answers}
-use Rattle.run_threads.specs.Work.{AreItems}
-use Rattle.run_threads.specs.declared.tale.Tale.{Tale}
+use Rattle.run_threads.specs.Served.{AreBlocks}
 use Rattle.run_threads.proofs.Answered.{answered_same}
 use Rattle.run_threads.proofs.Crews.{same_or_not}
-use Rattle.run_threads.proofs.Pool.{last_of, before_last, take_at}
+use Rattle.run_threads.proofs.Seats.{last_of, before_last, take_at}
 
-module _ (inputs : Inputs) (frames : List Frame) (locks : List BenchLock) where
+module _ (inputs : Inputs) (locks : List BenchLock) where
   joined_seat : (n : ℕ) (l : BenchLock) (old other new : BenchSeat) → HasJoined inputs.setup.instances (n + 1) l old → IsReturned n l other → IsJoin l old other new → HasJoined inputs.setup.instances n l new
   joined_seat n l old other new had back join =
       let split : numbers_in (joined_calls new) ≡ numbers_in (joined_calls old) ++ other.number ∷ numbers_in (joined_calls other) =
@@ -53,56 +52,58 @@ module _ (inputs : Inputs) (frames : List Frame) (locks : List BenchLock) where
       ap (λ k. answered k (opening inputs.setup g) history) (sym back.number_is) ∙ (ap (λ b. answered other.number b history) (sym first)
       ∙ answered_same other.number l.first (seen other) history begins (listed ∙ sym back.at.fits))
 
-  module _ (n : ℕ) (first new seats : List BenchSeat) (tales tales' : List Tale) (t : Tale) (are : AreLocks inputs.setup inputs.setup.shards locks) (had : AreJoined inputs frames (n + 1) locks first tales)
-      (worked : HasWorked inputs n frames locks seats t) (joins : JoinsFrom 0 locks first new seats) (pushed : tales' ≡ tales ++ t ∷ []) where
+  module _ (n : ℕ) (first new seats : List BenchSeat) (all all' : List (List (ℕ × OutcomeView))) (t : List (ℕ × OutcomeView)) (are : AreLocks inputs.setup inputs.setup.shards locks) (had : AreJoined inputs (n + 1) locks first all)
+      (worked : HasWorked inputs n locks seats t) (joins : JoinsFrom 0 locks first new seats) (pushed : all' ≡ all ++ t ∷ []) where
     join_at : (g : ℕ) (l : BenchLock) (s : BenchSeat) → g < inputs.setup.shards → IsJoin (slice_index_or locks g l) (slice_index_or first g s) (slice_index_or seats g s) (slice_index_or new g s)
     join_at g l s within = joins.done g l s (omega arith) (subst (λ k. g < k) (sym are.many) within)
 
-    has_told : HasTold inputs n frames new t
+    has_told : HasTold inputs n new t
     has_told = record {
       outcomes = worked.outcomes;
-      tells = worked.tells;
-      items = λ g d s within history fits.
-          subst (λ xs. AreItems inputs n 0 frames worked.outcomes g xs)
+      made_is = worked.made_is;
+      numbers_are = worked.numbers_are;
+      blocks = λ g d s within history fits.
+          subst (λ xs. AreBlocks inputs n 0 inputs.frames worked.outcomes g xs)
           (sym (its_answers n g (slice_index_or locks g d) (slice_index_or first g s) (slice_index_or seats g s) (slice_index_or new g s) history (are.each g d within) (worked.returned g d s within) (join_at g d s within) fits))
-          (worked.items g d s within);
+          (worked.blocks g d s within);
     }
 
-    still_told : (w : ℕ) (tale : Tale) → HasTold inputs w frames first tale → HasTold inputs w frames new tale
-    still_told w tale was = record {
+    still_told : (w : ℕ) (made : List (ℕ × OutcomeView)) → HasTold inputs w first made → HasTold inputs w new made
+    still_told w made was = record {
       outcomes = was.outcomes;
-      tells = was.tells;
-      items = λ g d s within history fits. was.items g d s within history (fewer_fit (slice_index_or locks g d) (slice_index_or first g s) (slice_index_or seats g s) (slice_index_or new g s) history (join_at g d s within) fits);
+      made_is = was.made_is;
+      numbers_are = was.numbers_are;
+      blocks = λ g d s within history fits. was.blocks g d s within history (fewer_fit (slice_index_or locks g d) (slice_index_or first g s) (slice_index_or seats g s) (slice_index_or new g s) history (join_at g d s within) fits);
     }
 
-    pub taken_in : AreJoined inputs frames n locks new tales'
+    pub taken_in : AreJoined inputs n locks new all'
     taken_in =
         let many = had.many in
         let I = inputs.setup.instances in record {
-          many = ap (λ l. length l + n) pushed ∙ (ap (λ k. k + n) (length-append tales (t ∷ [])) ∙ (let e : length tales + 1 + n ≡ I = omega (arith, many) in e));
+          many = ap (λ l. length l + n) pushed ∙ (ap (λ k. k + n) (length-append all (t ∷ [])) ∙ (let e : length all + 1 + n ≡ I = omega (arith, many) in e));
           seats_many = joins.many ∙ had.seats_many;
           seats = λ g l s within. joined_seat n (slice_index_or locks g l) (slice_index_or first g s) (slice_index_or seats g s) (slice_index_or new g s) (had.seats g l s within) (worked.returned g l s within) (join_at g l s within);
-          workers = λ w x above below. subst (λ z. HasTold inputs w frames new (slice_index_or z (I - 1 - w) x)) (sym pushed) (⊎_elim
-              (λ e. subst (λ k. HasTold inputs k frames new (slice_index_or (tales ++ t ∷ []) (I - 1 - k) x)) (sym e)
-              (subst (λ (z : Tale). HasTold inputs n frames new z) (sym (subst (λ k. slice_index_or (tales ++ t ∷ []) k x ≡ t) (let q : length tales ≡ I - 1 - n = omega (arith, many) in q) (last_of tales t x))) has_told))
-              (λ apart. subst (λ (z : Tale). HasTold inputs w frames new z) (sym (before_last tales t x (I - 1 - w) (omega (arith, many, above, below, apart))))
-              (still_told w (slice_index_or tales (I - 1 - w) x) (had.workers w x (omega (arith, above, apart)) below)))
+          workers = λ w x above below. subst (λ z. HasTold inputs w new (slice_index_or z (I - 1 - w) x)) (sym pushed) (⊎_elim
+              (λ e. subst (λ k. HasTold inputs k new (slice_index_or (all ++ t ∷ []) (I - 1 - k) x)) (sym e)
+              (subst (λ (z : List (ℕ × OutcomeView)). HasTold inputs n new z) (sym (subst (λ k. slice_index_or (all ++ t ∷ []) k x ≡ t) (let q : length all ≡ I - 1 - n = omega (arith, many) in q) (last_of all t x))) has_told))
+              (λ apart. subst (λ (z : List (ℕ × OutcomeView)). HasTold inputs w new z) (sym (before_last all t x (I - 1 - w) (omega (arith, many, above, below, apart))))
+              (still_told w (slice_index_or all (I - 1 - w) x) (had.workers w x (omega (arith, above, apart)) below)))
               (same_or_not w n));
         }
 
-  pub none_taken : (first : List BenchSeat) (tales : List Tale) → AreFresh 0 inputs.setup.instances inputs.setup.shards locks first → tales ≡ [] → AreJoined inputs frames inputs.setup.instances locks first tales
-  none_taken first tales fresh none = record {
+  pub none_taken : (first : List BenchSeat) (all : List (List (ℕ × OutcomeView))) → AreFresh 0 inputs.setup.instances inputs.setup.shards locks first → all ≡ [] → AreJoined inputs inputs.setup.instances locks first all
+  none_taken first all fresh none = record {
     many = ap (λ l. length l + inputs.setup.instances) none ∙ (let e : 0 + inputs.setup.instances ≡ inputs.setup.instances = omega arith in e);
     seats_many = fresh.many;
     seats = λ g l s within. let f = fresh.each g l s within in record { of = f.of; number_is = f.number_is; made_is = f.made_is; idle = f.idle; answers_for = λ w above below. absurd (omega (arith, above, below)) };
     workers = λ w d above below. absurd (omega (arith, above, below));
   }
 
-  pub joined_seats : (n : ℕ) (first : List BenchSeat) (tales : List Tale) → length locks ≡ inputs.setup.shards → AreJoined inputs frames n locks first tales → AreSeats locks first
-  joined_seats n first tales many had = record { many = had.seats_many ∙ sym many; each = λ g l s within. (had.seats g l s (subst (λ k. g < k) many within)).of }
+  pub joined_seats : (n : ℕ) (first : List BenchSeat) (all : List (List (ℕ × OutcomeView))) → length locks ≡ inputs.setup.shards → AreJoined inputs n locks first all → AreSeats locks first
+  joined_seats n first all many had = record { many = had.seats_many ∙ sym many; each = λ g l s within. (had.seats g l s (subst (λ k. g < k) many within)).of }
 
-  pub returned_seats : (n : ℕ) (seats : List BenchSeat) (tale : Tale) → length locks ≡ inputs.setup.shards → HasWorked inputs n frames locks seats tale → AreSeats locks seats
-  returned_seats n seats tale many worked = record { many = worked.many ∙ sym many; each = λ g l s within. (worked.returned g l s (subst (λ k. g < k) many within)).at.of }
+  pub returned_seats : (n : ℕ) (seats : List BenchSeat) (made : List (ℕ × OutcomeView)) → length locks ≡ inputs.setup.shards → HasWorked inputs n locks seats made → AreSeats locks seats
+  returned_seats n seats made many worked = record { many = worked.many ∙ sym many; each = λ g l s within. (worked.returned g l s (subst (λ k. g < k) many within)).at.of }
 
 -- ---- the last of what is left
 pub popped_is : {X : Type 0} (all rest now : List X) (x d : X) → rest ≡ take (length rest) all → rest ≡ now ++ x ∷ [] → slice_index_or all (length now) d ≡ x

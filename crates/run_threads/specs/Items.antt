@@ -88,8 +88,8 @@ abbrev pub instance_of : Prepared → Option ℕ
 instance_of (Ended v) = None
 instance_of (Work a segment instance shard) = Some instance
 
--- the worker that tells what becomes of the record: that of the instance, or where none handles it the one of the record's
--- number modulo the instances
+-- the worker among whose items the record counts: that of the instance, or where none handles it the one of the record's
+-- number modulo the instances, which has no call for it
 abbrev pub owner_by : SetupView → ℕ → Option ℕ → ℕ
 owner_by setup item None = item % setup.instances
 owner_by setup item (Some instance) = instance
@@ -97,7 +97,7 @@ owner_by setup item (Some instance) = instance
 abbrev pub owner : Inputs → ℕ → Frame → ℕ
 owner inputs item frame = owner_by inputs.setup item (instance_of (prepared_of inputs item frame))
 
--- the calls on one shard of a worker, and what it tells of the record
+-- the calls on one shard of a worker, and what becomes of the record where it counts among its items
 abbrev pub IsDone : Inputs → ℕ → ℕ → List ScriptLine → Frame → Option OutcomeView → ℕ → List Answer → Type 0
 IsDone inputs worker item lines frame None shard answers =
     (owner inputs item frame ≢ worker) × IsPassed inputs.setup worker (crash_after lines worker item) shard answers

@@ -1,9 +1,5 @@
 -- The locks of a run, and the seats that workers get and give back.
-use Rattle.std.specs.Prelude.{◌≡◌, ℕ, ◌+◌, ◌-◌, ◌<◌, ◌≤◌, max, List, [], ◌∷◌, ◌++◌, length, slice_index_or, Option, Some, None, IfOk, All, Contains, ◌^◌}
-use Rattle.std.specs.List.{filter}
-use Rattle.bench.specs.Inputs.{IsInputs}
-use Rattle.run_threads.specs.Due.{due_at, is_due}
-use Rattle.run_threads.specs.declared.due.Due.{Due}
+use Rattle.std.specs.Prelude.{◌≡◌, ℕ, ◌+◌, ◌-◌, ◌<◌, ◌≤◌, max, List, [], ◌∷◌, ◌++◌, length, map, slice_index_or, Option, Some, None, Contains}
 use Rattle.seen_lock.specs.declared.knowledge.Known.{Known}
 use Rattle.seen_lock.specs.declared.object.Entry.{Entry}
 use Rattle.seen_lock.specs.Histories.{AllAllowed, Begins, calls_by}
@@ -15,16 +11,14 @@ use Rattle.bench.specs.declared.call.Call.{Call}
 use Rattle.run_threads.specs.Answered.{answered}
 use Rattle.bench.specs.Histories.{opening}
 use Rattle.bench.specs.declared.input.inputs.Inputs.{Inputs}
-use Rattle.pcap_file.specs.declared.capture.Frame.{Frame}
 use Rattle.rule_table.specs.Setups.{SetupView}
-use Rattle.run_threads.specs.Owners.{AreOwners}
-use Rattle.run_threads.specs.Seats.{BenchLock, BenchSeat, IsAt, answers}
-use Rattle.run_threads.specs.Work.{AreItems, numbered}
+use Rattle.run_threads.specs.Feeding.{own_numbers}
 use Rattle.run_threads.specs.Outcomes.{OutcomeView}
-use Rattle.run_threads.specs.Tales.{Tells}
-use Rattle.run_threads.specs.declared.tale.Tale.{Tale}
-use Rattle.run_threads.specs.declared.run.Back.{Back}
-use Rattle.run_threads.specs.declared.run.Crew.{Crew}
+use Rattle.run_threads.specs.Run.{made_at}
+use Rattle.run_threads.specs.Seats.{BenchLock, BenchSeat, IsAt, answers}
+use Rattle.run_threads.specs.Served.{AreBlocks}
+use Rattle.run_threads.specs.Work.{numbered}
+use Rattle.run_threads.specs.declared.pool.Worker.{Worker}
 
 -- the first so many locks are those of the shards' new benches
 pub record AreLocks (setup : SetupView) (count : ℕ) (locks : List BenchLock) : Type 0 where
@@ -60,44 +54,25 @@ pub record IsReturned (worker : ℕ) (lock : BenchLock) (s : BenchSeat) : Type 0
   pub alone : joined_calls s ≡ []
   pub deaf : joined_seen s ≡ []
 
--- a worker's seats that come back, where it has told this
-pub record HasWorked (inputs : Inputs) (worker : ℕ) (frames : List Frame) (locks : List BenchLock) (seats : List BenchSeat) (tale : Tale) : Type 0 where
+-- a worker's seats that come back, where it has made this of all records that its instance handles
+pub record HasWorked (inputs : Inputs) (worker : ℕ) (locks : List BenchLock) (seats : List BenchSeat) (made : List (ℕ × OutcomeView)) : Type 0 where
   pub many : length seats ≡ inputs.setup.shards
   pub outcomes : List (Option OutcomeView)
-  pub tells : Tells tale (numbered 0 outcomes)
+  pub made_is : made ≡ numbered 0 outcomes
+  pub numbers_are : map (λ m. m.0) made ≡ own_numbers inputs worker 0 inputs.frames
   pub returned : (shard : ℕ) (l : BenchLock) (s : BenchSeat) → shard < inputs.setup.shards → IsReturned worker (slice_index_or locks shard l) (slice_index_or seats shard s)
-  pub items : (shard : ℕ) (l : BenchLock) (s : BenchSeat) → shard < inputs.setup.shards
-      → AreItems inputs worker 0 frames outcomes shard (answers (slice_index_or locks shard l) (slice_index_or seats shard s))
-
--- what a worker gives back, where it found memory
-abbrev pub IsBackOf : Inputs → ℕ → List Frame → List BenchLock → Back → Type 0
-IsBackOf inputs worker frames locks back = IfOk back.told (λ tale. HasWorked inputs worker frames locks back.seats.items tale)
+  pub blocks : (shard : ℕ) (l : BenchLock) (s : BenchSeat) → shard < inputs.setup.shards
+      → AreBlocks inputs worker 0 inputs.frames outcomes shard (answers (slice_index_or locks shard l) (slice_index_or seats shard s))
 
 -- a worker's number and its seats
-pub record IsCrewOf (shards worker : ℕ) (locks : List BenchLock) (crew : Crew) : Type 0 where
+pub record IsCrewOf (shards worker : ℕ) (locks : List BenchLock) (crew : Worker) : Type 0 where
   pub worker_is : crew.worker ≡ worker
-  pub seats_are : AreFresh (worker + 1) 0 shards locks crew.seats.items
+  pub seats_are : AreFresh (worker + 1) 0 shards locks crew.crew
 
 -- the crews of the first so many workers
-pub record AreCrews (shards count : ℕ) (locks : List BenchLock) (crews : List Crew) : Type 0 where
+pub record AreCrews (shards count : ℕ) (locks : List BenchLock) (crews : List Worker) : Type 0 where
   pub many : length crews ≡ count
-  pub each : (worker : ℕ) (c : Crew) → worker < count → IsCrewOf shards worker locks (slice_index_or crews worker c)
-
--- what the workers give back, each at its place
-pub record AreBacks (inputs : Inputs) (frames : List Frame) (locks : List BenchLock) (backs : List Back) : Type 0 where
-  pub many : length backs ≡ inputs.setup.instances
-  pub each : (worker : ℕ) (b : Back) → worker < inputs.setup.instances → IsBackOf inputs worker frames locks (slice_index_or backs worker b)
-
--- what a worker wants
-pub record MayServe (inputs : Inputs) (frames : List Frame) (owners : List ℕ) (due : Due) (locks : List BenchLock) (crew : Crew) : Type 0 where
-  pub inputs_are : IsInputs inputs
-  pub locks_are : AreLocks inputs.setup inputs.setup.shards locks
-  pub worker_is : crew.worker < inputs.setup.instances
-  pub seats_are : AreFresh (crew.worker + 1) 0 inputs.setup.shards locks crew.seats.items
-  pub inside : All (λ (f : Frame). f.at + f.kept ≤ length inputs.trace) frames
-  pub few : length frames < 2 ^ 32
-  pub owners_are : AreOwners inputs frames owners
-  pub due_are : (item : ℕ) → item < length frames → due_at due item ≡ filter (is_due item) inputs.script.lines
+  pub each : (worker : ℕ) (c : Worker) → worker < count → IsCrewOf shards worker locks (slice_index_or crews worker c)
 
 -- a seat with number 0, which has made one for each instance, and into which those of the workers from this one on were
 -- joined
@@ -113,20 +88,21 @@ pub record Fits (s : BenchSeat) (history : List (Entry Call)) : Type 0 where
   pub listed : AreIn history (joined_calls s)
   pub heard : (h : List (Entry Call)) → Contains (joined_seen s) h → Begins history h
 
--- a worker has told this: in each history that its seats fit its calls are those of its items
-pub record HasTold (inputs : Inputs) (worker : ℕ) (frames : List Frame) (first : List BenchSeat) (tale : Tale) : Type 0 where
+-- a worker has made this: in each history that its seats fit its calls are the blocks of its items
+pub record HasTold (inputs : Inputs) (worker : ℕ) (first : List BenchSeat) (made : List (ℕ × OutcomeView)) : Type 0 where
   pub outcomes : List (Option OutcomeView)
-  pub tells : Tells tale (numbered 0 outcomes)
-  pub items : (shard : ℕ) (l : BenchLock) (s : BenchSeat) → shard < inputs.setup.shards → (history : List (Entry Call)) → Fits (slice_index_or first shard s) history
-      → AreItems inputs worker 0 frames outcomes shard (answered (worker + 1) (opening inputs.setup shard) history)
+  pub made_is : made ≡ numbered 0 outcomes
+  pub numbers_are : map (λ m. m.0) made ≡ own_numbers inputs worker 0 inputs.frames
+  pub blocks : (shard : ℕ) (l : BenchLock) (s : BenchSeat) → shard < inputs.setup.shards → (history : List (Entry Call)) → Fits (slice_index_or first shard s) history
+      → AreBlocks inputs worker 0 inputs.frames outcomes shard (answered (worker + 1) (opening inputs.setup shard) history)
 
--- the seats of the workers from this one on were joined into these, and these are the workers' tales, the last worker's first
-pub record AreJoined (inputs : Inputs) (frames : List Frame) (from : ℕ) (locks : List BenchLock) (first : List BenchSeat) (tales : List Tale) : Type 0 where
-  pub many : length tales + from ≡ inputs.setup.instances
+-- the seats of the workers from this one on were joined into these, and this is what these workers made, the last one's first
+pub record AreJoined (inputs : Inputs) (from : ℕ) (locks : List BenchLock) (first : List BenchSeat) (all : List (List (ℕ × OutcomeView))) : Type 0 where
+  pub many : length all + from ≡ inputs.setup.instances
   pub seats_many : length first ≡ inputs.setup.shards
   pub seats : (shard : ℕ) (l : BenchLock) (s : BenchSeat) → shard < inputs.setup.shards → HasJoined inputs.setup.instances from (slice_index_or locks shard l) (slice_index_or first shard s)
-  pub workers : (worker : ℕ) (d : Tale) → from ≤ worker → worker < inputs.setup.instances
-      → HasTold inputs worker frames first (slice_index_or tales (inputs.setup.instances - 1 - worker) d)
+  pub workers : (worker : ℕ) (d : List (ℕ × OutcomeView)) → from ≤ worker → worker < inputs.setup.instances
+      → HasTold inputs worker first (made_at inputs all worker d)
 
 -- another seat was joined into this one
 pub record IsJoin (lock : BenchLock) (old other new : BenchSeat) : Type 0 where

@@ -1,9 +1,10 @@
 //! Calls that a worker makes of the benches of all shards.
-ghost use Rattle.std.specs.Prelude.{◌≡◌, ◌+◌, ◌%◌, ◌<◌, ◌==◌, [], ◌∷◌, if◌then◌else◌, OnOk};
+ghost use Rattle.std.specs.Prelude.{◌≡◌, ℕ, ◌+◌, ◌%◌, ◌<◌, ◌==◌, [], ◌∷◌, if◌then◌else◌, OnOk};
 ghost use Rattle.bench.specs.Calls.{IsCall};
 ghost use Rattle.bench.specs.declared.call.Call.TheVariants.{Crash, Fail};
 ghost use Rattle.bench.specs.Blocks.{fail_at, fail_calls, crash_calls};
 ghost use Rattle.run_threads.specs.Crews.{IsCrew, CrewMakes};
+ghost use Rattle.run_threads.specs.Named.{Names, GoesOnNaming};
 
 use crate::object::BenchObject;
 use crate::seat::call;
@@ -26,6 +27,7 @@ fn call_at<R: Wait>(
     requires shard { shard < setup.now.shards }
     requires allowed { IsCall setup.now shard item }
     ensures crew { IsCrew setup.now locks.now seats.new }
+    ensures named { (i : ℕ) → Names i item → GoesOnNaming i locks.now seats.old seats.new }
     ensures made { OnOk result (CrewMakes locks.now seats.old seats.new (record { shard = shard; call = item } ∷ [])) }
 {
     let _ = setup;
@@ -47,6 +49,7 @@ pub(crate) fn crash_all<R: Wait>(
     requires crew { IsCrew setup.now locks.now seats.old }
     requires instance { instance < setup.now.instances }
     ensures crew { IsCrew setup.now locks.now seats.new }
+    ensures named { GoesOnNaming instance locks.now seats.old seats.new }
     ensures made { OnOk result (CrewMakes locks.now seats.old seats.new (crash_calls setup.now instance)) }
 {
     for shard in 0..setup.shards() {
@@ -69,6 +72,7 @@ fn fail_place<R: Wait>(
     requires shard { shard < setup.now.shards }
     requires place { place < setup.now.copies }
     ensures crew { IsCrew setup.now locks.now seats.new }
+    ensures named { (i : ℕ) → GoesOnNaming i locks.now seats.old seats.new }
     ensures made { OnOk result (CrewMakes locks.now seats.old seats.new
         (if (shard + place) % setup.now.replicas == replica then record { shard = shard; call = Fail place } ∷ [] else [])) }
 {
@@ -91,6 +95,7 @@ fn fail_shard<R: Wait>(
     requires crew { IsCrew setup.now locks.now seats.old }
     requires shard { shard < setup.now.shards }
     ensures crew { IsCrew setup.now locks.now seats.new }
+    ensures named { (i : ℕ) → GoesOnNaming i locks.now seats.old seats.new }
     ensures made { OnOk result (CrewMakes locks.now seats.old seats.new (fail_at setup.now replica shard)) }
 {
     for place in 0..setup.copies() {
@@ -109,6 +114,7 @@ pub(crate) fn fail_all<R: Wait>(
 ) -> Result<(), AllocError>
     requires crew { IsCrew setup.now locks.now seats.old }
     ensures crew { IsCrew setup.now locks.now seats.new }
+    ensures named { (i : ℕ) → GoesOnNaming i locks.now seats.old seats.new }
     ensures made { OnOk result (CrewMakes locks.now seats.old seats.new (fail_calls setup.now replica)) }
 {
     for shard in 0..setup.shards() {

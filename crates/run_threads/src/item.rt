@@ -1,11 +1,12 @@
 //! What a worker does at one record.
-ghost use Rattle.std.specs.Prelude.{◌≡◌, ◌<◌, ◌≤◌, ◌+◌, ◌%◌, ◌==◌, length, OnOk, IfOk};
+ghost use Rattle.std.specs.Prelude.{◌≡◌, ℕ, ◌<◌, ◌≤◌, ◌+◌, ◌%◌, ◌==◌, length, OnOk, IfOk};
 ghost use Rattle.bench.specs.Calls.{IsAimedHere};
 ghost use Rattle.bench.specs.Inputs.{IsInputs};
 ghost use Rattle.bench.specs.Prepared.{IsPrepared};
 ghost use Rattle.bench.specs.declared.input.prepared.Prepared.TheVariants.{Work};
 ghost use Rattle.run_threads.specs.Crews.{IsCrew, CrewDoes, CrewMakes};
 ghost use Rattle.run_threads.specs.Handling.{refused_by, end_of};
+ghost use Rattle.run_threads.specs.Named.{GoesOnNaming};
 ghost use Rattle.bench.specs.Blocks.{crash_of, crash_after};
 ghost use Rattle.run_threads.specs.Items.{IsHandledAt, IsTurn, IsPassed, IsDone, IsItem, failing, fails_of, fails_before, owner};
 
@@ -43,6 +44,7 @@ fn handle_at<R: Wait>(
     requires shard { shard < setup.now.shards }
     requires aimed { IsAimedHere setup.now shard aim seg }
     ensures crew { IsCrew setup.now locks.now seats.new }
+    ensures named { GoesOnNaming instance locks.now seats.old seats.new }
     ensures does { CrewDoes locks.now seats.old seats.new (IsHandledAt setup.now instance item aim seg shard after (refused_by result) (end_of result)) }
 {
     let place = shard as usize;
@@ -72,6 +74,7 @@ pub(crate) fn crash_if<R: Wait>(
     requires crew { IsCrew setup.now locks.now seats.old }
     requires instance { instance < setup.now.instances }
     ensures crew { IsCrew setup.now locks.now seats.new }
+    ensures named { GoesOnNaming instance locks.now seats.old seats.new }
     ensures made { OnOk result (CrewMakes locks.now seats.old seats.new (crash_of setup.now instance after)) }
 {
     match after {
@@ -98,6 +101,7 @@ pub(crate) fn take_turn<R: Wait>(
     requires crew { IsCrew setup.now locks.now seats.old }
     requires fits { IsPrepared setup.now (Work aim seg instance shard) }
     ensures crew { IsCrew setup.now locks.now seats.new }
+    ensures named { GoesOnNaming instance locks.now seats.old seats.new }
     ensures turn { IfOk result (λ o. CrewDoes locks.now seats.old seats.new (IsTurn setup.now instance item aim seg shard after o)) }
 {
     let end = handle_at(
@@ -129,6 +133,7 @@ fn fail_if<R: Wait>(
 ) -> Result<(), AllocError>
     requires crew { IsCrew setup.now locks.now seats.old }
     ensures crew { IsCrew setup.now locks.now seats.new }
+    ensures named { (i : ℕ) → GoesOnNaming i locks.now seats.old seats.new }
     ensures made { OnOk result (CrewMakes locks.now seats.old seats.new (fails_of setup.now replica)) }
 {
     match replica {
@@ -139,7 +144,7 @@ fn fail_if<R: Wait>(
 
 /// The replicas fail that these lines have fail before the record, where its number modulo the instances is the worker's. The
 /// one error is want of memory.
-fn fail_before<R: Wait>(
+pub(crate) fn fail_before<R: Wait>(
     rt: &R,
     setup: &Setup,
     locks: &[SeenLock<BenchObject>],
@@ -150,6 +155,7 @@ fn fail_before<R: Wait>(
 ) -> Result<(), AllocError>
     requires crew { IsCrew setup.now locks.now seats.old }
     ensures crew { IsCrew setup.now locks.now seats.new }
+    ensures named { (i : ℕ) → GoesOnNaming i locks.now seats.old seats.new }
     ensures made { OnOk result (CrewMakes locks.now seats.old seats.new (fails_before setup.now worker item lines.now)) }
 {
     for line in lines {
@@ -159,7 +165,7 @@ fn fail_before<R: Wait>(
 }
 
 /// After how many steps the instance crashes in the record `item`, if it does.
-fn crash_after(lines: &[ScriptLine], instance: u16, item: u32) -> Option<u16>
+pub(crate) fn crash_after(lines: &[ScriptLine], instance: u16, item: u32) -> Option<u16>
     ensures { result ≡ crash_after lines.now instance item }
 {
     for line in lines {
@@ -176,7 +182,7 @@ fn crash_after(lines: &[ScriptLine], instance: u16, item: u32) -> Option<u16>
 }
 
 /// What a worker does at a record that has an end already: its instance crashes where the script has it so.
-fn pass<R: Wait>(
+pub(crate) fn pass<R: Wait>(
     rt: &R,
     setup: &Setup,
     locks: &[SeenLock<BenchObject>],
@@ -188,107 +194,10 @@ fn pass<R: Wait>(
     requires crew { IsCrew setup.now locks.now seats.old }
     requires worker { worker < setup.now.instances }
     ensures crew { IsCrew setup.now locks.now seats.new }
+    ensures named { GoesOnNaming worker locks.now seats.old seats.new }
     ensures told { IfOk result (λ o. o ≡ told) }
     ensures passed { OnOk result (CrewDoes locks.now seats.old seats.new (IsPassed setup.now worker after)) }
 {
     crash_if(rt, setup, locks, seats, worker, after)?;
     Ok(told)
-}
-
-/// What a worker does at a record of this worker: its segment is handled where it is the same one, and the instance crashes
-/// where the script has it so.
-fn do_own<G: Gate, R: Wait>(
-    rt: &R,
-    alloc: Global,
-    inputs: &Inputs,
-    locks: &[SeenLock<BenchObject>],
-    seats: &mut [SeenSeat<BenchObject>],
-    worker: u16,
-    item: u32,
-    lines: &[ScriptLine],
-    frame: &Frame,
-    whose: u16,
-    gate: &G,
-) -> Result<Option<Outcome>, AllocError>
-    requires inputs { IsInputs inputs.now }
-    requires worker { worker < inputs.now.setup.instances }
-    requires crew { IsCrew inputs.now.setup locks.now seats.old }
-    requires inside { frame.now.at + frame.now.kept ≤ length inputs.now.trace }
-    requires whose { whose ≡ owner inputs.now item frame.now }
-    ensures crew { IsCrew inputs.now.setup locks.now seats.new }
-    ensures done { IfOk result (λ o. CrewDoes locks.now seats.old seats.new (IsDone inputs.now worker item lines.now frame.now o)) }
-{
-    let setup = &inputs.setup;
-    let after = crash_after(lines, worker, item);
-    if whose != worker {
-        return pass(rt, setup, locks, seats, worker, after, None);
-    }
-    match prepare(alloc, inputs, item, frame) {
-        Ok(Prepared::Ended(verdict)) => pass(
-            rt,
-            setup,
-            locks,
-            seats,
-            worker,
-            after,
-            Some(ended(alloc, verdict)),
-        ),
-        Ok(
-            Prepared::Work {
-                aim,
-                seg,
-                instance,
-                shard,
-            },
-        ) => {
-            gate.enter(worker, item);
-            let turn = take_turn(
-                rt, alloc, setup, locks, seats, instance, item, aim, seg, shard, after,
-            );
-            gate.leave(worker, item);
-            match turn {
-                Ok(outcome) => Ok(Some(outcome)),
-                Err(refused) => Err(refused),
-            }
-        }
-        Err(_) => pass(
-            rt,
-            setup,
-            locks,
-            seats,
-            worker,
-            after,
-            Some(ended(alloc, Verdict::NoMemory { calls: 0 })),
-        ),
-    }
-}
-
-/// What a worker does at a record, for which the script has these lines: replicas fail before it, its segment is handled
-/// where the record is the worker's, and the worker's instance crashes where the script has it so. The one error is want of
-/// memory for a failure or a crash.
-pub(crate) fn do_item<G: Gate, R: Wait>(
-    rt: &R,
-    alloc: Global,
-    inputs: &Inputs,
-    locks: &[SeenLock<BenchObject>],
-    seats: &mut [SeenSeat<BenchObject>],
-    worker: u16,
-    item: u32,
-    lines: &[ScriptLine],
-    frame: &Frame,
-    whose: u16,
-    gate: &G,
-) -> Result<Option<Outcome>, AllocError>
-    requires inputs { IsInputs inputs.now }
-    requires worker { worker < inputs.now.setup.instances }
-    requires crew { IsCrew inputs.now.setup locks.now seats.old }
-    requires inside { frame.now.at + frame.now.kept ≤ length inputs.now.trace }
-    requires whose { whose ≡ owner inputs.now item frame.now }
-    ensures crew { IsCrew inputs.now.setup locks.now seats.new }
-    ensures done { IfOk result (λ o. CrewDoes locks.now seats.old seats.new (IsItem inputs.now worker item lines.now frame.now o)) }
-{
-    fail_before(rt, &inputs.setup, locks, seats, worker, item, lines)?;
-    do_own(
-        rt, alloc, inputs, locks, seats, worker, item, lines, frame, whose, gate,
-    )
 }

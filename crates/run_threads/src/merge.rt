@@ -1,59 +1,63 @@
-//! What the workers tell, put into one list for all records.
-ghost use Rattle.std.specs.Prelude.{◌≡◌, ◌≢◌, ◌<◌, ◌≤◌, ◌*◌, ◌^◌, ℕ, [], length, reverse, slice_index_or, IfOk, OnOk};
+//! What the workers made, put into one list for all records.
+ghost use Rattle.std.specs.Prelude.{◌≡◌, ◌≢◌, ◌<◌, ◌≤◌, ◌*◌, ℕ, List, [], length, reverse, slice_index_or, IfOk, OnOk};
 ghost use Rattle.bench.specs.Inputs.{IsInputs};
+ghost use Rattle.run_threads.specs.Outcomes.{OutcomeView};
 ghost use Rattle.run_threads.specs.Owners.{AreOwners};
-ghost use Rattle.run_threads.specs.Run.{AreTales, IsMerged, AreGathered};
-ghost use Rattle.run_threads.specs.Tales.{TakesLast};
-ghost use Rattle.run_threads.specs.declared.tale.Tale.{Tale as TaleOf};
+ghost use Rattle.run_threads.specs.Run.{AreMade, IsMerged, AreGathered};
+ghost use Rattle.run_threads.specs.Sent.{TakesLast};
 
-use crate::owner::owner_at;
-use crate::tale::Tale;
+use crate::made::Made;
+use crate::owner::Owner;
 use bench::input::{Inputs, Line, Lines, Result1, Sent};
-use pcap_file::Frame;
 use std::alloc::{AllocError, Global};
 use tcp_segment::Segment;
 
-/// Takes the last line out of the tale at this place, that of the record with this number, and adds what is sent for it to the
-/// list, the last segment first.
+/// Takes the last record out of what the worker at this place made, and adds what is sent for it to the list, the last segment
+/// first.
 fn take_last(
-    tales: &mut [Tale],
+    all: &mut [Made],
     place: usize,
-    item: u32,
     sent: &mut Vec<(u32, Segment)>,
 ) -> Result<Line, AllocError>
-    requires place { place < length tales.old }
-    requires some { (d : TaleOf) → 0 < length (slice_index_or tales.old place d).lines.items }
-    ensures many { length tales.new ≡ length tales.old }
-    ensures others { (k : ℕ) (d : TaleOf) → k ≢ place → slice_index_or tales.new k d ≡ slice_index_or tales.old k d }
-    ensures last { IfOk result (λ line. (d : TaleOf) → TakesLast item (slice_index_or tales.old place d) (slice_index_or tales.new place d) sent.old.items sent.new.items line) }
+    requires place { place < length all.old }
+    requires some { (d : List (ℕ × OutcomeView)) → 0 < length (slice_index_or all.old place d) }
+    ensures many { length all.new ≡ length all.old }
+    ensures others { (k : ℕ) (d : List (ℕ × OutcomeView)) → k ≢ place → slice_index_or all.new k d ≡ slice_index_or all.old k d }
+    ensures last { IfOk result (λ line. (d : List (ℕ × OutcomeView)) → TakesLast (slice_index_or all.old place d) (slice_index_or all.new place d) sent.old.items sent.new.items line) }
 {
-    tales[place].take_last(item, sent)
+    all[place].take_last(sent)
 }
 
-/// Takes the lines of all records and what is sent for them out of the tales, from the last record on: each is told by the
-/// worker whose record it is. The one error is want of memory.
+/// Puts the lines of all records and what is sent for them into the lists, from the last record on: each is told by the worker
+/// whose record it is, or has its verdict already. The one error is want of memory.
 fn gather(
     inputs: &Inputs,
-    frames: &[Frame],
-    owners: &[u16],
-    tales: &mut [Tale],
+    owners: &[Owner],
+    all: &mut [Made],
     lines: &mut Vec<Line>,
     sent: &mut Vec<(u32, Segment)>,
 ) -> Result<(), AllocError>
     requires inputs { IsInputs inputs.now }
-    requires few { length frames.now < 2 ^ 32 }
-    requires owners { AreOwners inputs.now frames.now owners.now }
-    requires tales { AreTales inputs.now frames.now tales.old }
+    requires owners { AreOwners inputs.now inputs.now.frames owners.now }
+    requires made { AreMade inputs.now inputs.now.frames all.old }
     requires no_lines { lines.old.items ≡ [] }
     requires none_sent { sent.old.items ≡ [] }
-    ensures { OnOk result (AreGathered inputs.now frames.now tales.old lines.new.items sent.new.items) }
+    ensures { OnOk result (AreGathered inputs.now inputs.now.frames all.old lines.new.items sent.new.items) }
 {
-    let mut left = frames.len();
+    let _ = inputs;
+    let mut left = owners.len();
     while left > 0 {
         left -= 1;
-        let who = owner_at(inputs, frames, owners, left);
-        let place = tales.len() - 1 - who as usize;
-        let line = take_last(tales, place, left as u32, sent)?;
+        let line = match owners[left] {
+            Owner::Nobody(verdict) => Line {
+                instance: None,
+                verdict,
+            },
+            Owner::Worker(worker) => {
+                let place = all.len() - 1 - worker as usize;
+                take_last(all, place, sent)?
+            }
+        };
         lines.push(line)?;
     }
     Ok(())
@@ -72,23 +76,21 @@ fn turned(mut lines: Vec<Line>, mut sent: Vec<(u32, Segment)>) -> Result1
     }
 }
 
-/// Puts what the workers tell into one list for all records, in their order. The one error is want of memory.
+/// Puts what the workers made into one list for all records, in their order. The one error is want of memory.
 pub(crate) fn merge(
     alloc: Global,
     inputs: &Inputs,
-    frames: &[Frame],
-    owners: &[u16],
-    mut tales: Vec<Tale>,
+    owners: &[Owner],
+    mut all: Vec<Made>,
 ) -> Result<Result1, AllocError>
     requires inputs { IsInputs inputs.now }
-    requires few { length frames.now < 2 ^ 32 }
-    requires owners { AreOwners inputs.now frames.now owners.now }
-    requires tales { AreTales inputs.now frames.now tales.items }
-    ensures merged { IfOk result (λ r. IsMerged inputs.now frames.now tales.items r.lines r.outs) }
-    ensures few { IfOk result (λ r. length r.outs ≤ 11 * length frames.now) }
+    requires owners { AreOwners inputs.now inputs.now.frames owners.now }
+    requires made { AreMade inputs.now inputs.now.frames all.items }
+    ensures merged { IfOk result (λ r. IsMerged inputs.now inputs.now.frames all.items r.lines r.outs) }
+    ensures few { IfOk result (λ r. length r.outs ≤ 11 * length inputs.now.frames) }
 {
-    let mut lines = Vec::with_capacity(alloc, frames.len())?;
-    let mut sent = Vec::with_capacity(alloc, frames.len())?;
-    gather(inputs, frames, owners, &mut tales, &mut lines, &mut sent)?;
+    let mut lines = Vec::with_capacity(alloc, owners.len())?;
+    let mut sent = Vec::with_capacity(alloc, owners.len())?;
+    gather(inputs, owners, &mut all, &mut lines, &mut sent)?;
     Ok(turned(lines, sent))
 }

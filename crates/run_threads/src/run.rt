@@ -1,32 +1,33 @@
 //! A whole run: a lock for each shard's bench, a worker for each instance, and what is left of them.
-ghost use Rattle.std.specs.Prelude.{◌≡◌, ◌≤◌, ◌<◌, ◌+◌, ◌*◌, ◌^◌, ℕ, All, length, map, IfOk, OnOk};
-ghost use Rattle.std.specs.List.{AllByRecursion, filter};
-ghost use Rattle.run_threads.specs.Due.{due_at, is_due};
-ghost use Rattle.bench.specs.Fitting.{IsSent};
-ghost use Rattle.run_threads.specs.Owners.{AreOwners};
-ghost use Rattle.run_threads.specs.Run.{AreDone, IsThreadRun};
-ghost use Rattle.run_threads.specs.Pool.{AreSeats, JoinsFrom, AreJoined, AllIn, AreHistories, AreLocks, AreFresh, AreCrews, AreBacks, IsBackOf, MayServe, IsSplit};
-ghost use Rattle.pcap_file.specs.Frames.{capture_of, left_of};
+ghost use Rattle.std.specs.Prelude.{◌≡◌, ◌<◌, ◌≤◌, ◌*◌, ℕ, List, length, map, slice_set, IfOk};
+ghost use Rattle.std.specs.List.{AllByRecursion};
 ghost use Rattle.std.specs.Thread.{IsSync};
+ghost use Rattle.bench.specs.Fitting.{IsSent};
 ghost use Rattle.bench.specs.Inputs.{IsInputs};
+ghost use Rattle.bench.specs.declared.input.inputs.Inputs.{Inputs as InputsOf};
+ghost use Rattle.run_threads.specs.Handles.{AreHandles, AreOpen, MayFeed};
+ghost use Rattle.run_threads.specs.Owners.{AreOwners};
+ghost use Rattle.run_threads.specs.Pool.{AreJoined, AreLocks, AreFresh, AreCrews};
+ghost use Rattle.run_threads.specs.Run.{AreDone, IsThreadRun};
+ghost use Rattle.run_threads.specs.Seats.{BenchLock};
 
-use crate::due::Due;
 use crate::gate::Gate;
+use crate::handle::{Handle, Worked, begin, end, feed, finish};
+use crate::locks::{Crew, Locks};
+use crate::made::Made;
 use crate::merge::merge;
-use crate::object::{BenchObject, BoxedBench};
-use crate::owner::owners;
-use crate::tale::Tale;
-use crate::worker::work;
+use crate::object::BenchObject;
+use crate::owner::{Owner, owners};
+use crate::pool::{Worker, close_all, crews_of, join_all, open_locks};
+use bench::Call;
 use bench::input::{Inputs, Result1};
-use bench::{Bench, Call};
-use pcap_file::{Frame, Reader};
-use rule_table::Setup;
 use script_text::assignments;
-use seen_lock::{Entry, SeenLock, SeenSeat};
+use seen_lock::{Entry, SeenSeat};
 use std::alloc::{AllocError, Global};
 use std::sync::Wait;
-use std::thread;
-use std::thread::Threads;
+use std::sync::atomic::AtomicU32;
+use std::thread::{Scope, Threads};
+use std::{mem, thread};
 
 /// What is left of a run: what became of the records, and the history of each shard's bench.
 #[derive(Drop)]
@@ -35,298 +36,232 @@ pub struct RunResult {
     pub histories: Vec<Vec<Entry<Call>>>,
 }
 
-/// A worker, and its seats at the locks.
+/// The first seats of the locks, into which those of all workers were joined, and what the workers made, the last one first.
 #[derive(Drop)]
-pub(crate) struct Crew {
-    worker: u16,
-    seats: Vec<SeenSeat<BenchObject>>,
+pub(crate) struct Joined {
+    first: Vec<SeenSeat<BenchObject>>,
+    all: Vec<Made>,
 }
 
-/// What a worker gives back.
-#[derive(Drop)]
-pub(crate) struct Back {
-    seats: Vec<SeenSeat<BenchObject>>,
-    told: Result<Tale, AllocError>,
-}
-
-/// The frames that a reader of the trace finds.
-fn frames_from(alloc: Global, inputs: &Inputs, mut reader: Reader) -> Result<Vec<Frame>, AllocError>
-    requires inputs { IsInputs inputs.now }
-    requires left { left_of reader inputs.now.trace ≡ capture_of inputs.now.trace }
-    requires inside { reader.place ≤ length inputs.now.trace }
-    ensures frames { IfOk result (λ frames. frames.items ≡ (capture_of inputs.now.trace).frames) }
-    ensures inside { IfOk result (λ frames. All (λ f. f.at + f.kept ≤ length inputs.now.trace) frames.items) }
+/// A place for each worker's handle. The one error is want of memory.
+fn places<'a>(alloc: Global, inputs: &Inputs, locks: &Locks) -> Result<Vec<Handle<'a>>, AllocError>
+    ensures handles { IfOk result (λ handles. AreHandles inputs.now 0 locks.now handles.items) }
+    ensures open { IfOk result (λ handles. AreOpen handles.items) }
 {
-    let trace = inputs.trace.as_slice();
-    let mut frames = Vec::with_capacity(alloc, inputs.records as usize)?;
-    while let Ok(Some(frame)) = reader.next(trace) {
-        frames.push(frame)?;
+    let _ = locks;
+    let count = inputs.setup.instances();
+    let mut handles = Vec::with_capacity(alloc, count as usize)?;
+    for _ in 0..count {
+        handles.push(Handle::NoMemory)?;
     }
-    Ok(frames)
+    Ok(handles)
 }
 
-/// The frames of the trace, in their order. The one error is want of memory.
-pub fn frames_of(alloc: Global, inputs: &Inputs) -> Result<Vec<Frame>, AllocError>
-    requires { IsInputs inputs.now }
-    ensures frames { IfOk result (λ frames. frames.items ≡ (capture_of inputs.now.trace).frames) }
-    ensures inside { IfOk result (λ frames. All (λ f. f.at + f.kept ≤ length inputs.now.trace) frames.items) }
+/// Puts a handle at its place.
+fn put<'a>(handles: &mut [Handle<'a>], place: usize, handle: Handle<'a>)
+    requires { place < length handles.old }
+    ensures { handles.new ≡ slice_set handles.old place handle.entry }
 {
-    match Reader::open(inputs.trace.as_slice()) {
-        Ok(reader) => frames_from(alloc, inputs, reader),
-        Err(_) => Ok(Vec::new(alloc)),
-    }
+    handles[place] = handle;
 }
 
-/// A lock for each shard, and its seat number 0.
-fn open_locks(
+/// Begins each worker, in a thread of the scope where one can be made.
+fn begin_all<'s, E, G: Gate + Sync, R: Threads + Wait + Sync>(
+    rt: &'s R,
     alloc: Global,
-    setup: &Setup,
-) -> Result<(Vec<SeenLock<BenchObject>>, Vec<SeenSeat<BenchObject>>), AllocError>
-    ensures locks { IfOk result (λ r. AreLocks setup.now setup.now.shards r.0.items) }
-    ensures seats { IfOk result (λ r. AreFresh 0 0 setup.now.shards r.0.items r.1.items) }
-{
-    let mut locks = Vec::with_capacity(alloc, setup.shards() as usize)?;
-    let mut seats = Vec::with_capacity(alloc, setup.shards() as usize)?;
-    for shard in 0..setup.shards() {
-        let bench = BoxedBench::new(alloc, Bench::new(alloc, setup.copy()?, shard)?)?;
-        let (lock, seat) = SeenLock::new(alloc, bench)?;
-        locks.push(lock)?;
-        seats.push(seat)?;
-    }
-    Ok((locks, seats))
-}
-
-/// A crew for the next worker.
-fn next_crew(
-    alloc: Global,
-    locks: &[SeenLock<BenchObject>],
-    first: &mut [SeenSeat<BenchObject>],
-    worker: u16,
-) -> Result<Vec<SeenSeat<BenchObject>>, AllocError>
-    requires locks { length locks.now ≤ 64 }
-    requires first { AreFresh 0 worker (length locks.now) locks.now first.old }
-    ensures seats { IfOk result (λ seats. AreFresh (worker + 1) 0 (length locks.now) locks.now seats.items) }
-    ensures first { OnOk result (AreFresh 0 (worker + 1) (length locks.now) locks.now first.new) }
-{
-    let mut seats = Vec::with_capacity(alloc, locks.len())?;
-    for place in 0..locks.len() {
-        seats.push(locks[place].split(&mut first[place])?)?;
-    }
-    Ok(seats)
-}
-
-/// A crew for each worker.
-fn crews_of(
-    alloc: Global,
-    setup: &Setup,
-    locks: &[SeenLock<BenchObject>],
-    first: &mut [SeenSeat<BenchObject>],
-) -> Result<Vec<Crew>, AllocError>
-    requires locks { length locks.now ≡ setup.now.shards }
-    requires first { AreFresh 0 0 (length locks.now) locks.now first.old }
-    ensures crews { IfOk result (λ crews. AreCrews setup.now.shards setup.now.instances locks.now crews.items) }
-    ensures first { OnOk result (AreFresh 0 setup.now.instances setup.now.shards locks.now first.new) }
-{
-    setup.known();
-    let mut crews = Vec::with_capacity(alloc, setup.instances() as usize)?;
-    for worker in 0..setup.instances() {
-        let seats = next_crew(alloc, locks, first, worker)?;
-        crews.push(Crew { worker, seats })?;
-    }
-    Ok(crews)
-}
-
-/// Lets a crew do its worker's items, and gives it back with what the worker tells.
-fn serve<G: Gate, R: Wait>(
-    rt: &R,
-    alloc: Global,
-    inputs: &Inputs,
-    frames: &[Frame],
-    owners: &[u16],
-    due: &Due,
-    locks: &[SeenLock<BenchObject>],
-    crew: Crew,
-    gate: &G,
-) -> Back
-    requires inputs { IsInputs inputs.now }
-    requires locks { AreLocks inputs.now.setup inputs.now.setup.shards locks.now }
-    requires worker { crew.worker < inputs.now.setup.instances }
-    requires seats { AreFresh (crew.worker + 1) 0 inputs.now.setup.shards locks.now crew.seats.items }
-    requires frames { All (λ f. f.at + f.kept ≤ length inputs.now.trace) frames.now }
-    requires few { length frames.now < 2 ^ 32 }
-    requires owners { AreOwners inputs.now frames.now owners.now }
-    requires due { (item : ℕ) → item < length frames.now → due_at due.now item ≡ filter (is_due item) inputs.now.script.lines }
-    ensures { IsBackOf inputs.now crew.worker frames.now locks.now result }
-{
-    let Crew { worker, mut seats } = crew;
-    match work(
-        rt, alloc, inputs, frames, owners, due, locks, &mut seats, worker, gate,
-    ) {
-        Ok(tale) => Back {
-            seats,
-            told: Ok(tale),
-        },
-        Err(refused) => Back {
-            seats,
-            told: Err(refused),
-        },
-    }
-}
-
-/// Lets each crew do its worker's items, in a thread of its own where one can be made. The one error is want of memory.
-fn run_workers<G: Gate + Sync, R: Threads + Wait + Sync>(
-    rt: &R,
-    alloc: Global,
-    inputs: &Inputs,
-    frames: &[Frame],
-    owners: &[u16],
-    due: &Due,
-    locks: &[SeenLock<BenchObject>],
-    crews: Vec<Crew>,
-    gate: &G,
-) -> Result<Vec<Back>, AllocError>
-    requires inputs { IsInputs inputs.now }
-    requires locks { AreLocks inputs.now.setup inputs.now.setup.shards locks.now }
-    requires crews { AreCrews inputs.now.setup.shards inputs.now.setup.instances locks.now crews.items }
-    requires frames { All (λ f. f.at + f.kept ≤ length inputs.now.trace) frames.now }
-    requires few { length frames.now < 2 ^ 32 }
-    requires owners { AreOwners inputs.now frames.now owners.now }
-    requires due { (item : ℕ) → item < length frames.now → due_at due.now item ≡ filter (is_due item) inputs.now.script.lines }
-    ensures { IfOk result (λ backs. AreBacks inputs.now frames.now locks.now backs.items) }
-{
-    thread::map_vec(
-        rt,
-        crews,
-        &|crew: Crew| -> Back
-            requires { IsSync R.row × IsSync G.row × MayServe inputs.now frames.now owners.now due.now locks.now crew }
-            ensures { IsBackOf inputs.entry.now crew.worker frames.entry.now locks.entry.now result }
-        { serve(rt, alloc, inputs, frames, owners, due, locks, crew, gate) },
-    )
-}
-
-/// Joins each of the seats into the first one of its lock.
-fn join_all(
-    locks: &[SeenLock<BenchObject>],
-    first: &mut [SeenSeat<BenchObject>],
-    mut seats: Vec<SeenSeat<BenchObject>>,
+    scope: &Scope<'s, E>,
+    inputs: &'s Inputs,
+    locks: &'s Locks,
+    mut workers: Vec<Worker>,
+    handles: &mut [Handle<'s>],
+    gate: &'s G,
+    unmade: &'s AtomicU32,
 )
-    requires first { AreSeats locks.now first.old }
-    requires seats { AreSeats locks.now seats.items }
-    ensures { JoinsFrom 0 locks.now first.old first.new seats.items }
+    requires inputs { IsInputs inputs.now }
+    requires locks { AreLocks inputs.now.setup inputs.now.setup.shards locks.now }
+    requires workers { AreCrews inputs.now.setup.shards inputs.now.setup.instances locks.now workers.items }
+    requires handles { AreHandles inputs.now 0 locks.now handles.old }
+    requires open { AreOpen handles.old }
+    ensures handles { AreHandles inputs.now 0 locks.now handles.new }
+    ensures open { AreOpen handles.new }
 {
-    while let Some(seat) = seats.pop() {
-        let place = seats.len();
-        locks[place].join(&mut first[place], seat);
+    while let Some(worker) = workers.pop() {
+        let place = workers.len();
+        let begun = begin(rt, alloc, scope, inputs, locks, worker, gate, unmade);
+        put(handles, place, begun);
     }
 }
 
-/// Takes the seats of all workers in again, and hands out what the workers tell, the last worker's tale first. The one error is
-/// want of memory.
-fn take_in(
+/// Gives each worker the numbers of its records, in their order, while the workers run.
+fn feed_all<G: Gate, R: Wait>(
+    rt: &R,
     alloc: Global,
     inputs: &Inputs,
-    frames: &[Frame],
-    locks: &[SeenLock<BenchObject>],
+    locks: &Locks,
+    owners: &[Owner],
+    handles: &mut [Handle<'_>],
+    gate: &G,
+)
+    requires inputs { IsInputs inputs.now }
+    requires owners { AreOwners inputs.now inputs.now.frames owners.now }
+    requires handles { AreHandles inputs.now 0 locks.now handles.old }
+    requires open { AreOpen handles.old }
+    ensures handles { AreHandles inputs.now inputs.now.records locks.now handles.new }
+    ensures open { AreOpen handles.new }
+{
+    for item in 0..inputs.records {
+        match owners[item as usize] {
+            Owner::Worker(worker) => {
+                let place = worker as usize;
+                let handle = mem::replace(&mut handles[place], Handle::NoMemory);
+                let fed = feed(rt, alloc, inputs, locks, handle, worker, item, gate);
+                put(handles, place, fed);
+            }
+            Owner::Nobody(_) => {}
+        }
+    }
+}
+
+/// Gives each worker the end.
+fn end_all<R: Wait>(rt: &R, handles: &mut [Handle<'_>])
+    requires { AreOpen handles.old }
+    ensures { (inputs : InputsOf) (n : ℕ) (locks : List BenchLock) → AreHandles inputs n locks handles.old → AreHandles inputs n locks handles.new }
+{
+    for place in 0..handles.len() {
+        let handle = mem::replace(&mut handles[place], Handle::NoMemory);
+        let ended = end(rt, handle);
+        put(handles, place, ended);
+    }
+}
+
+/// Takes the seats of all workers in again, and hands out what the workers made, the last one first. The one error is want of
+/// memory.
+fn take_in<G: Gate, R: Threads + Wait>(
+    rt: &R,
+    alloc: Global,
+    inputs: &Inputs,
+    locks: &Locks,
     first: &mut [SeenSeat<BenchObject>],
-    mut backs: Vec<Back>,
-) -> Result<Vec<Tale>, AllocError>
+    mut handles: Vec<Handle<'_>>,
+    gate: &G,
+) -> Result<Vec<Made>, AllocError>
+    requires inputs { IsInputs inputs.now }
     requires locks { AreLocks inputs.now.setup inputs.now.setup.shards locks.now }
     requires first { AreFresh 0 inputs.now.setup.instances inputs.now.setup.shards locks.now first.old }
-    requires backs { AreBacks inputs.now frames.now locks.now backs.items }
-    ensures { IfOk result (λ tales. AreJoined inputs.now frames.now 0 locks.now first.new tales.items) }
+    requires handles { AreHandles inputs.now inputs.now.records locks.now handles.items }
+    ensures { IfOk result (λ all. AreJoined inputs.now 0 locks.now first.new all.items) }
 {
-    let _ = inputs;
-    let _ = frames;
-    let mut all = Vec::with_capacity(alloc, backs.len())?;
-    while let Some(back) = backs.pop() {
-        let Back { seats, told } = back;
-        let tale = told?;
-        join_all(locks, first, seats);
-        all.push(tale)?;
+    let mut all = Vec::with_capacity(alloc, handles.len())?;
+    let mut left = inputs.setup.instances();
+    while let Some(handle) = handles.pop() {
+        left -= 1;
+        let worked = finish(rt, alloc, inputs, locks, handle, left, gate)?;
+        let Worked { crew, made } = worked;
+        let Crew { items } = crew;
+        join_all(&locks.items, first, items);
+        all.push(made)?;
     }
     Ok(all)
 }
 
-/// Ends the locks, and hands out their histories. The one error is want of memory.
-fn close_all(
+/// Lets the workers do all their items, in threads of the scope where these can be made, and takes their seats in again. The one
+/// error is want of memory, and then all inboxes have their end.
+fn run_workers<'s, E, G: Gate + Sync, R: Threads + Wait + Sync>(
+    rt: &'s R,
     alloc: Global,
-    setup: &Setup,
-    mut locks: Vec<SeenLock<BenchObject>>,
+    scope: &Scope<'s, E>,
+    inputs: &'s Inputs,
+    locks: &'s Locks,
+    owners: &[Owner],
+    workers: Vec<Worker>,
     mut first: Vec<SeenSeat<BenchObject>>,
-) -> Result<Vec<Vec<Entry<Call>>>, AllocError>
-    requires { AllIn setup.now.instances setup.now.shards locks.items first.items }
-    ensures { IfOk result (λ h. AreHistories setup.now.instances setup.now.shards 0 first.items (map (λ x. x.items) h.items)) }
+    gate: &'s G,
+    unmade: &'s AtomicU32,
+) -> Result<Joined, AllocError>
+    requires { MayFeed inputs.now locks.now owners.now workers.items first.items }
+    ensures { IfOk result (λ joined. AreJoined inputs.now 0 locks.now joined.first.items joined.all.items) }
 {
-    let _ = setup;
-    let mut histories = Vec::with_capacity(alloc, locks.len())?;
-    while let Some(lock) = locks.pop() {
-        let seat = first.pop().unwrap();
-        let (history, _bench) = lock.close(seat);
-        histories.insert(0, history)?;
-    }
-    Ok(histories)
+    let mut handles = places(alloc, inputs, locks)?;
+    begin_all(
+        rt,
+        alloc,
+        scope,
+        inputs,
+        locks,
+        workers,
+        &mut handles,
+        gate,
+        unmade,
+    );
+    feed_all(rt, alloc, inputs, locks, owners, &mut handles, gate);
+    end_all(rt, &mut handles);
+    let all = take_in(rt, alloc, inputs, locks, &mut first, handles, gate)?;
+    Ok(Joined { first, all })
 }
 
-/// Lets the workers do all their items, over a lock for each shard, and hands out what they tell, the last worker's tale
-/// first, and the histories of the closed locks. The one error is want of memory.
+/// Lets the workers do all their items over these locks, and takes their seats in again. The one error is want of memory.
+fn run_scoped<G: Gate + Sync, R: Threads + Wait + Sync>(
+    rt: &R,
+    alloc: Global,
+    inputs: &Inputs,
+    locks: &Locks,
+    owners: &[Owner],
+    workers: Vec<Worker>,
+    first: Vec<SeenSeat<BenchObject>>,
+    gate: &G,
+) -> Result<Joined, AllocError>
+    requires { MayFeed inputs.now locks.now owners.now workers.items first.items }
+    ensures { IfOk result (λ joined. AreJoined inputs.now 0 locks.now joined.first.items joined.all.items) }
+{
+    // The number, and one, of the worker whose thread could not be made.
+    let unmade = AtomicU32::new(0);
+    let unmade = &unmade;
+    thread::scope(
+        thread::scope_env(),
+        rt,
+        move |scope| -> Result<Joined, AllocError>
+            requires { IsSync R.row × IsSync G.row × MayFeed inputs.now locks.now owners.now workers.items first.items }
+            ensures { IfOk result (λ joined. AreJoined inputs.entry.now 0 locks.entry.now joined.first.items joined.all.items) }
+        {
+            run_workers(
+                rt, alloc, scope, inputs, locks, owners, workers, first, gate, unmade,
+            )
+        },
+    )
+}
+
+/// Lets the workers do all their items, over a lock for each shard, and hands out what they made, the last one first, and the
+/// histories of the closed locks. The one error is want of memory.
 fn run_locked<G: Gate + Sync, R: Threads + Wait + Sync>(
     rt: &R,
     alloc: Global,
     inputs: &Inputs,
-    frames: &[Frame],
-    owners: &[u16],
+    owners: &[Owner],
     gate: &G,
-) -> Result<(Vec<Tale>, Vec<Vec<Entry<Call>>>), AllocError>
+) -> Result<(Vec<Made>, Vec<Vec<Entry<Call>>>), AllocError>
     requires inputs { IsInputs inputs.now }
-    requires frames { frames.now ≡ (capture_of inputs.now.trace).frames }
-    requires inside { All (λ f. f.at + f.kept ≤ length inputs.now.trace) frames.now }
-    requires owners { AreOwners inputs.now frames.now owners.now }
+    requires owners { AreOwners inputs.now inputs.now.frames owners.now }
     ensures { IfOk result (λ r. AreDone inputs.now r.0.items (map (λ h. h.items) r.1.items)) }
 {
     inputs.setup.known();
-    let due = Due::of(alloc, inputs.script.lines(), inputs.records)?;
-    let (locks, mut first) = open_locks(alloc, &inputs.setup)?;
-    let crews = crews_of(alloc, &inputs.setup, &locks, &mut first)?;
-    let backs = run_workers(rt, alloc, inputs, frames, owners, &due, &locks, crews, gate)?;
-    let tales = take_in(alloc, inputs, frames, &locks, &mut first, backs)?;
-    let histories = close_all(alloc, &inputs.setup, locks, first)?;
-    Ok((tales, histories))
+    let (items, mut first) = open_locks(alloc, &inputs.setup)?;
+    let workers = crews_of(alloc, &inputs.setup, &items, &mut first)?;
+    let locks = Locks { items };
+    let Joined { first, all } = run_scoped(
+        rt, alloc, inputs, &locks, owners, workers, first, gate,
+    )?;
+    let Locks { items } = locks;
+    let histories = close_all(alloc, &inputs.setup, items, first)?;
+    Ok((all, histories))
 }
 
-/// Handles the records of the trace, which have these frames, with one worker for each instance, over a lock for each shard's
-/// bench, with what the script does before and in them. It may wait, for other callers of a lock and for the threads.
+/// Handles the records of the trace with one worker for each instance, over a lock for each shard's bench, with what the script
+/// does before and in them. A worker is a thread, which is given the numbers of its records through an inbox while all run; where
+/// no thread can be made the caller does the worker's items as it comes to them. It may wait, for other callers of a lock, for an
+/// inbox with no room and for the threads.
 ///
-/// The one error is want of memory, for the locks, the lists, the threads, or a crash or a failure. A record whose own memory
+/// The one error is want of memory, for the locks, the lists, the inboxes, or a crash or a failure. A record whose own memory
 /// was refused ends with [`job_core::Verdict::NoMemory`] and the number of its bench calls that were made.
-pub fn run_frames<G: Gate + Sync, R: Threads + Wait + Sync>(
-    rt: &R,
-    alloc: Global,
-    inputs: &Inputs,
-    frames: &[Frame],
-    gate: &G,
-) -> Result<RunResult, AllocError>
-    requires inputs { IsInputs inputs.now }
-    requires frames { frames.now ≡ (capture_of inputs.now.trace).frames }
-    requires inside { All (λ f. f.at + f.kept ≤ length inputs.now.trace) frames.now }
-    // The lines and the segments are those of a run whose histories these are.
-    ensures run { IfOk result (λ r. IsThreadRun inputs.now r.result.lines r.result.outs (map (λ h. h.items) r.histories.items)) }
-    // Each segment that is sent fits a packet, and has the number of a record.
-    ensures sent { IfOk result (λ r. AllByRecursion (IsSent inputs.now.records) r.result.outs) }
-    ensures lines { IfOk result (λ r. length r.result.lines ≡ inputs.now.records) }
-    ensures few { IfOk result (λ r. length r.result.outs ≤ 11 * inputs.now.records) }
-{
-    assignments();
-    inputs.setup.known();
-    let owners = owners(rt, alloc, inputs, frames)?;
-    let (tales, histories) = run_locked(rt, alloc, inputs, frames, &owners, gate)?;
-    let merged = merge(alloc, inputs, frames, &owners, tales)?;
-    Ok(RunResult {
-        result: merged,
-        histories,
-    })
-}
-
-/// Handles the records of the trace with one worker for each instance, as [`run_frames`] does, whose errors it has.
 pub fn run_all<G: Gate + Sync, R: Threads + Wait + Sync>(
     rt: &R,
     alloc: Global,
@@ -341,6 +276,11 @@ pub fn run_all<G: Gate + Sync, R: Threads + Wait + Sync>(
     ensures lines { IfOk result (λ r. length r.result.lines ≡ inputs.now.records) }
     ensures few { IfOk result (λ r. length r.result.outs ≤ 11 * inputs.now.records) }
 {
-    let frames = frames_of(alloc, inputs)?;
-    run_frames(rt, alloc, inputs, &frames, gate)
+    assignments();
+    inputs.known();
+    inputs.setup.known();
+    let owners = owners(rt, alloc, inputs)?;
+    let (all, histories) = run_locked(rt, alloc, inputs, &owners, gate)?;
+    let result = merge(alloc, inputs, &owners, all)?;
+    Ok(RunResult { result, histories })
 }

@@ -1,13 +1,14 @@
-ghost use Rattle.std.specs.Prelude.{◌≡◌, ◌≤◌, ◌<◌, length, map, None, IfOk, IfSome};
+ghost use Rattle.std.specs.Prelude.{◌≡◌, ◌≤◌, ◌<◌, length, map, false, None, IfOk, IfSome};
 ghost use Rattle.bench.specs.Calls.{IsCall, AreCalls};
 ghost use Rattle.bench.specs.Inputs.{IsInputs};
 ghost use Rattle.pcap_file.specs.Frames.{capture_of, left_of};
 ghost use Rattle.run_threads.specs.Run.{IsThreadRun};
 
-use crate::{Gate, OpenGate, RunResult, run_all};
-use bench::input::{Inputs, TRACE_BYTES, TRACE_RECORDS};
+use crate::{Gate, Locks, OpenGate, RunResult, run_all, serve};
+use bench::input::{Frames, Inputs, TRACE_BYTES, TRACE_RECORDS};
 use bench::{Bench, Call, Reply, apply};
 use flow_id::{Flow, candidate, marks_of};
+use inbox::{Giver, pair};
 use job_core::Verdict;
 use journal_text::journal;
 use pcap_file::{Reader, write_header, write_record};
@@ -161,11 +162,14 @@ fn inputs_over(alloc: Global, instances: u16, trace: Vec<u8>, script: &[u8]) -> 
     if records > TRACE_RECORDS as usize {
         return Err("too many records".into());
     }
+    let records = records as u32;
+    let frames = Frames::of(alloc, &trace, records)?;
     Ok(Inputs {
         setup,
         trace: Bytes::new(trace),
+        frames,
         script,
-        records: records as u32,
+        records,
     })
 }
 
@@ -437,6 +441,8 @@ impl Gate for Holding {
             self.left.store(1, Ordering::SeqCst);
         }
     }
+
+    fn fed(&self, _worker: u16, _record: u32) {}
 }
 
 /// Whether the worker that is held sees the other one handle a record while it is held.
@@ -455,5 +461,123 @@ fn overlaps<R: Threads + Wait + Sync>(rt: &R, alloc: Global, held: u16) -> Resul
 fn two_workers_run_at_once(rt: HostRuntime) -> Result<(), Fail> {
     assert!(rt; overlaps(&rt, rt.alloc(), 1)?);
     assert!(rt; overlaps(&rt, rt.alloc(), 0)?);
+    Ok(())
+}
+
+/// SYNs of a hundred clients, whose segments all go to instance 1 of two.
+fn hundred_syns(alloc: Global) -> Result<Inputs, Fail>
+    ensures { IfOk result IsInputs }
+{
+    let mut syns: Vec<Row<'static>> = Vec::new(alloc);
+    for client in 0..100u16 {
+        syns.push((
+            (0xc000_0209, 5000 + 2 * client),
+            SERVICE,
+            (1000, 0),
+            SYN,
+            b"",
+        ))?;
+    }
+    inputs_of(alloc, 2, &syns, b"")
+}
+
+/// Gives the numbers below 100 in order, and then the end. False where the inbox was full.
+fn give_hundred<R: Wait>(rt: &R, giver: &mut Giver<u32>) -> bool
+    requires { giver.old.ended ≡ false }
+    ensures { giver.new.inbox ≡ giver.old.inbox }
+{
+    for item in 0..100 {
+        if giver.try_give(rt, item).is_err() {
+            return false;
+        }
+    }
+    giver.end(rt)
+}
+
+#[test]
+fn a_worker_is_served_from_its_inbox(rt: HostRuntime) -> Result<(), Fail> {
+    let alloc = rt.alloc();
+    let inputs = hundred_syns(alloc)?;
+    if inputs.setup.instances() != 2 {
+        return Err("other instances".into());
+    }
+    let (locks, mut crew) = Locks::open(alloc, &inputs.setup)?;
+    let (mut giver, mut taker) = pair::<u32>(alloc, 128)?;
+    assert!(rt; give_hundred(&rt, &mut giver));
+    let made = serve(
+        &rt, alloc, &inputs, 1, &locks, &mut crew, &mut taker, &OpenGate,
+    )?;
+    taker.take_in(giver);
+    assert_eq!(rt; made.as_slice().len(), 100);
+    assert!(rt; made.as_slice().iter().map(|m| m.0).eq(0..100));
+    assert!(rt;
+        made.as_slice().iter().all(|m| m.1.instance == Some(1)
+            && m.1.verdict == Verdict::Answered
+            && m.2.as_slice().len() == 1)
+    );
+    Ok(())
+}
+
+/// Holds the first record of worker 1 until so many numbers were given or are about to be, and looks for one more.
+#[derive(Drop)]
+struct Filling {
+    fed: AtomicU64,
+    /// How many times a worker came to a record.
+    entered: AtomicU64,
+    /// How many numbers had been given or were about to be when it stopped waiting for them, and a while later.
+    seen: AtomicU64,
+    later: AtomicU64,
+}
+
+/// The one that the worker has taken, those in its inbox, and the one that waits to be given.
+const HELD_BACK: u64 = 1 + 64 + 1;
+
+impl Gate for Filling {
+    fn enter(&self, _worker: u16, _item: u32) {
+        if self.entered.fetch_add(1, Ordering::SeqCst) != 0 {
+            return;
+        }
+        for _ in 0..10_000_000 {
+            if self.fed.load(Ordering::SeqCst) >= HELD_BACK {
+                break;
+            }
+            thread::yield_now();
+        }
+        self.seen
+            .store(self.fed.load(Ordering::SeqCst), Ordering::SeqCst);
+        for _ in 0..1_000_000 {
+            if self.fed.load(Ordering::SeqCst) > HELD_BACK {
+                break;
+            }
+            thread::yield_now();
+        }
+        self.later
+            .store(self.fed.load(Ordering::SeqCst), Ordering::SeqCst);
+    }
+
+    fn leave(&self, _worker: u16, _item: u32) {}
+
+    fn fed(&self, _worker: u16, _record: u32) {
+        self.fed.fetch_add(1, Ordering::SeqCst);
+    }
+}
+
+#[test]
+fn a_full_inbox_holds_its_giver_back(rt: HostRuntime) -> Result<(), Fail> {
+    let alloc = rt.alloc();
+    let inputs = hundred_syns(alloc)?;
+    let gate = Filling {
+        fed: AtomicU64::new(0),
+        entered: AtomicU64::new(0),
+        seen: AtomicU64::new(0),
+        later: AtomicU64::new(0),
+    };
+    let done = run_all(&rt, alloc, &inputs, &gate)?;
+    let lines = done.result.lines.as_slice();
+    assert_eq!(rt; lines.len(), 100);
+    assert!(rt; lines.iter().all(|l| l.verdict == Verdict::Answered));
+    assert_eq!(rt; gate.seen.load(Ordering::SeqCst), HELD_BACK);
+    assert_eq!(rt; gate.later.load(Ordering::SeqCst), HELD_BACK);
+    assert_eq!(rt; gate.fed.load(Ordering::SeqCst), 100);
     Ok(())
 }

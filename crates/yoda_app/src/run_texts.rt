@@ -21,8 +21,7 @@ use journal_text::journal;
 use pcap_file::Frame;
 use plain_run::Inputs;
 use run_threads::{
-    OpenGate, RunResult, calls_are_named, frames_of, journal_determines, run_frames,
-    verdicts_are_caused,
+    OpenGate, RunResult, calls_are_named, journal_determines, run_all, verdicts_are_caused,
 };
 use script_text::assignments;
 use seen_lock::Entry;
@@ -200,8 +199,8 @@ pub fn threaded_texts<R: Threads + Wait + Sync>(
     forwarding_laws();
     headline();
     inputs.setup.known();
-    let frames = frames_of(alloc, inputs)?;
-    let ran = run_frames(rt, alloc, inputs, &frames, &OpenGate)?;
-    let texts = texts_left(rt, alloc, inputs, &frames, &ran)?;
+    inputs.known();
+    let ran = run_all(rt, alloc, inputs, &OpenGate)?;
+    let texts = texts_left(rt, alloc, inputs, inputs.frames.as_slice(), &ran)?;
     Ok((texts, ran))
 }

@@ -8,4 +8,8 @@ loop-shard-preserved g c =
       made = made_more c.args.setup.now c.args.locks.now c.args.seats.now c.loop-shard.seats c.fail_shard.new.seats _ (calls c.loop-shard.shard) _
           c.loop-shard.invariant.made c.in_ok-fail_shard.ensures.made (flat_range calls c.loop-shard.shard);
       crew = c.fail_shard.ensures.crew;
+      named = λ i base so. c.fail_shard.ensures.named i base (c.loop-shard.invariant.named i base so);
     }
+
+pub returns-in_err-fail_shard-clause-named : goal.returns-in_err-fail_shard-clause-named
+returns-in_err-fail_shard-clause-named g c i base so = c.fail_shard.ensures.named i base (c.loop-shard.invariant.named i base so)

@@ -14,4 +14,8 @@ loop-place-preserved g c =
       made = made_more c.args.setup.now c.args.locks.now c.args.seats.now c.loop-place.seats c.fail_place.new.seats _ (map at (filter own (place ∷ []))) _
           c.loop-place.invariant.made (if_made c.args.setup.now c.args.locks.now c.loop-place.seats c.fail_place.new.seats (at place) at own place refl c.in_ok-fail_place.ensures.made) (map_filter_range at own place);
       crew = c.fail_place.ensures.crew;
+      named = λ i base so. c.fail_place.ensures.named i base (c.loop-place.invariant.named i base so);
     }
+
+pub returns-in_err-fail_place-clause-named : goal.returns-in_err-fail_place-clause-named
+returns-in_err-fail_place-clause-named g c i base so = c.fail_place.ensures.named i base (c.loop-place.invariant.named i base so)

@@ -15,4 +15,8 @@ loop-line-preserved g c =
       made = made_more c.args.setup.now c.args.locks.now c.args.seats.now c.loop-line.seats c.fail_if.new.seats (flat_map calls (take n lines)) (calls (get_or lines n _)) (flat_map calls (take (n + 1) lines))
           c.loop-line.invariant.made (subst (λ r. CrewMakes c.args.locks.now c.loop-line.seats c.fail_if.new.seats (fails_of c.args.setup.now r)) c.failing.ensures c.in_ok-fail_if.ensures.made) (flat_take calls lines n _ c.loop-line-test.true);
       crew = c.fail_if.ensures.crew;
+      named = λ i base so. c.fail_if.ensures.named i base (c.loop-line.invariant.named i base so);
     }
+
+pub returns-in_err-fail_if-clause-named : goal.returns-in_err-fail_if-clause-named
+returns-in_err-fail_if-clause-named g c i base so = c.fail_if.ensures.named i base (c.loop-line.invariant.named i base so)

@@ -6,8 +6,8 @@ use Rattle.run_threads.proofs.merge.merge.Goals as goal
 pub returns-clause-merged : goal.returns-clause-merged
 returns-clause-merged c =
     let inputs = c.args.inputs.now in
-    let frames = c.args.frames.now in
-    let gathered : AreGathered inputs frames c.args.tales.items c.gather.new.lines.items c.gather.new.sent.items =
+    let frames = inputs.frames in
+    let gathered : AreGathered inputs frames c.args.all.items c.gather.new.lines.items c.gather.new.sent.items =
     subst (λ z. AreGathered inputs frames z c.gather.new.lines.items c.gather.new.sent.items) c.deref_mut.ensures.value c.in_ok-gather.ensures in record {
       outcomes = gathered.outcomes;
       count = gathered.count;
