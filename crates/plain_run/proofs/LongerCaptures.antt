@@ -22,7 +22,7 @@ two_inside little [] ys h = absurd (omega arith)
 two_inside little (a ∷ []) ys h = absurd (omega arith)
 two_inside little (a ∷ b ∷ xs) ys h = refl
 
-four_inside : (little : Bool) (xs ys : List ℕ) → 4 ≤ length xs → number_at little 0 4 (xs ++ ys) ≡ number_at little 0 4 xs
+pub four_inside : (little : Bool) (xs ys : List ℕ) → 4 ≤ length xs → number_at little 0 4 (xs ++ ys) ≡ number_at little 0 4 xs
 four_inside little [] ys h = absurd (omega arith)
 four_inside little (a ∷ []) ys h = absurd (omega arith)
 four_inside little (a ∷ b ∷ []) ys h = absurd (omega arith)
@@ -54,7 +54,7 @@ module _ (xs ys : List ℕ) (long : 24 ≤ length xs) where
   link_same : link_type (xs ++ ys) ≡ link_type xs
   link_same = ap (λ (l : Bool). number_at l 20 4 (xs ++ ys)) little_same ∙ four_at (is_little xs) 20 xs ys (omega arith)
 
-  settings_same : settings_of (xs ++ ys) ≡ settings_of xs
+  pub settings_same : settings_of (xs ++ ys) ≡ settings_of xs
   settings_same = λ k. record {
     little = little_same k;
     nano = (let m = magic_inside k in m == 0xa1b2_3c4d || m == 0x4d3c_b2a1);
@@ -69,7 +69,7 @@ module _ (xs ys : List ℕ) (long : 24 ≤ length xs) where
       ∷ (not (link == 1 || link == 101), UnknownLink link)
       ∷ []
 
-  tests_same : drop 1 (header_faults (xs ++ ys)) ≡ drop 1 (header_faults xs)
+  pub tests_same : drop 1 (header_faults (xs ++ ys)) ≡ drop 1 (header_faults xs)
   tests_same = λ k. tests (magic_inside k) (little_same k) (major_same k) (minor_same k) (link_same k)
 
 passed : (test : Bool) (fault : PcapFault) (tests : List (Bool × PcapFault)) → first ((test, fault) ∷ tests) ≡ None → (test ≡ false) × (first tests ≡ None)

@@ -1,6 +1,9 @@
+pub mod Filled
 pub mod Fronts
 pub mod Growing
 pub mod InParts
+pub mod Judged
+pub mod Lines
 pub mod Longer
 pub mod LongerTexts
 pub mod MadeOf
@@ -17,3 +20,5 @@ pub mod Sending
 pub mod SentFrom
 pub mod Splicing
 pub mod Stops
+pub mod Turns
+pub mod Windowed

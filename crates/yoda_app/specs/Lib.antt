@@ -14,5 +14,7 @@ pub mod RunCommand
 pub mod RunWords
 pub mod Spliced
 pub mod Texts
+pub mod Walks
+pub mod Windows
 pub mod Words
 pub mod Written

@@ -1,37 +1,18 @@
 // The command `dump`.
 ghost use Rattle.std.specs.Prelude.{◌≡◌, [], ◌∷◌, IfOk, IfErr, OnOk, None};
 ghost use Rattle.std.specs.String.{string_bytes};
-ghost use Rattle.plain_run.specs.Loading.{IsTraceLoaded};
 ghost use Rattle.shelf.specs.Changes.{change, held, AreTold};
 ghost use Rattle.shelf.specs.Shelf.{SameContents, SameOthers, NoneFell, StaysSure};
 ghost use Rattle.yoda_app.specs.DumpCommand.{dump_over};
 ghost use Rattle.yoda_app.specs.Ends.{IsStop, IsEnd};
 
-use crate::dump_text::dump_text;
 use crate::ending::{Stop, stop_of};
 use crate::output::append_output;
-use crate::words::name_of;
-use plain_run::load_trace;
+use crate::windows::dump_of;
 use shelf::Shelf;
 use std::alloc::Global;
-use tcp_segment::Bytes;
 
 const OUTPUT: &str = "-";
-
-// Reads the trace and judges it.
-fn load_input<'a, H: Shelf>(alloc: Global, shelf: &mut H, trace: &'a str) -> Result<Bytes, Stop<'a>>
-    ensures loaded { IfOk result (IsTraceLoaded trace.now (change H.content H.faults H.sure shelf.old shelf.new)) }
-    ensures stop { IfErr result (IsStop (dump_over trace.now) (change H.content H.faults H.sure shelf.old shelf.new)) }
-    ensures same { SameContents (H.content shelf.old) (H.content shelf.new) }
-    ensures counts { NoneFell (H.faults shelf.old) (H.faults shelf.new) }
-    ensures stays { StaysSure (H.sure shelf.old) (H.sure shelf.new) }
-{
-    let name = name_of(alloc, trace)?;
-    match load_trace(alloc, &name, shelf) {
-        Ok(bytes) => Ok(bytes),
-        Err(fault) => Err(stop_of(alloc, fault)),
-    }
-}
 
 // Reads the trace, judges it, and makes the text.
 fn prepare<'a, H: Shelf>(alloc: Global, shelf: &mut H, trace: &'a str) -> Result<String, Stop<'a>>
@@ -44,8 +25,10 @@ fn prepare<'a, H: Shelf>(alloc: Global, shelf: &mut H, trace: &'a str) -> Result
     ensures counts { NoneFell (H.faults shelf.old) (H.faults shelf.new) }
     ensures stays { StaysSure (H.sure shelf.old) (H.sure shelf.new) }
 {
-    let bytes = load_input(alloc, shelf, trace)?;
-    Ok(dump_text(alloc, bytes.as_slice())?)
+    match dump_of(alloc, shelf, trace) {
+        Ok(text) => Ok(text),
+        Err(fault) => Err(stop_of(alloc, fault)),
+    }
 }
 
 /// Reads the trace, and adds a line for each of its frames to standard output.

@@ -22,9 +22,9 @@ mod drive;
 mod drive_words;
 mod dump;
 mod dump_line;
-mod dump_text;
 mod ending;
 mod fault_text;
+mod filling;
 mod longer_run;
 mod output;
 mod outs_text;
@@ -37,6 +37,7 @@ mod run_words;
 mod sent_parts;
 mod spliced;
 mod texts;
+mod windows;
 mod words;
 mod writing;
 

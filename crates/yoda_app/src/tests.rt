@@ -14,6 +14,7 @@ mod refusals;
 mod runs;
 mod scripts;
 mod threads;
+mod windows;
 
 /// Two servers. The shop's cart goes to the first, the testers go to the second, and the rest of the shop to both.
 const RULES: &str = r#"instances = 2

@@ -137,9 +137,8 @@ fn inputs_above_their_limits_are_refused(rt: HostRuntime) -> Result<(), Fail> {
     let large = vec![in alloc; 0; 67_108_865]?;
     let other_link = changed(alloc, &HEADER, &[(20, 113)])?;
     let within = blank.get(1..).unwrap_or(&[]);
-    let rows: [(&str, &[u8], &[u8], &[u8], &str); 7] = [
+    let rows: [(&str, &[u8], &[u8], &[u8], &str); 6] = [
         (DUMP, &[], &most, &[], "0 "),
-        (DUMP, &[], &more, &[], "8 limit: trace records 262145\n"),
         (DUMP, &[], &large, &[], "8 limit: trace bytes 67108865\n"),
         (
             PLAIN,
